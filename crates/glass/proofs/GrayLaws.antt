@@ -1,0 +1,69 @@
+-- The level by a split quotient, and the grey from a quotient and a remainder of 255 times the state.
+use mathlib.Core.Path.{_≡_, refl, sym, ap, _∙_}
+use Prim.Native.Nat.{ℕ, _+_, _-_, _*_, _/_, _%_, _^_, _≤_, _<_, min}
+use native.Mathlib.Nat.{mul-assoc, add-mul, mul-comm, mul-left-comm, div-add-mod, div-lt-iff-lt-mul, le-div-iff-mul-le, pow-succ'}
+use native.Mathlib.Omega.{arith}
+use native.Mathlib.Numerals.{add-one}
+use lib.Pow.{pow-mono}
+use lib.Arith.{digits-div}
+use Rattle.glass.specs.declared.Sum.{Sum}
+use Rattle.glass.specs.Gray.{levelOf, grayOf}
+use Rattle.glass.specs.Division.{Carried}
+
+-- ---- the level by a split quotient
+pub level-split : (g s : ℕ) → s / 255 * g + s % 255 * g / 255 ≡ levelOf g s
+level-split g s = omega (arith, parted)
+  where
+    parted : s * g ≡ 255 * (s / 255 * g) + s % 255 * g
+    parted =
+        ap (λ (n : ℕ). n * g) (sym (div-add-mod s 255))
+        ∙ add-mul (255 * (s / 255)) (s % 255) g
+        ∙ ap (λ (n : ℕ). n + s % 255 * g) (mul-assoc 255 (s / 255) g)
+
+-- ---- the grey before it is held to 255
+abbrev pub rounded : ℕ → ℕ → ℕ
+rounded x s = (2 * (x * 255) + s) / (2 * s)
+
+pub rounded-fits : (x s : ℕ) → 0 < s → x ≤ s → rounded x s < 256
+rounded-fits x s h k = div-lt-iff-lt-mul {k = 2 * s} {x = 2 * (x * 255) + s} {y = 256} (omega arith) .1 (omega arith)
+
+-- a state at white or past it, with some swing
+pub gray-white : (x s : ℕ) → 0 < s → s ≤ x → 255 ≡ grayOf x s
+gray-white x s h k = omega (arith, le-div-iff-mul-le {k = 2 * s} {x = 255} {y = 2 * (x * 255) + s} (omega arith) .1 (omega arith))
+
+module _ (x s q r : ℕ) (e : 255 * x ≡ q * s + r) where
+  pub rounded-down : 2 * r < s → rounded x s ≡ q
+  rounded-down h =
+      ap (λ (n : ℕ). n / (2 * s)) {x = 2 * (x * 255) + s} {y = q * (2 * s) + (2 * r + s)} (omega (arith, mul-left-comm q 2 s))
+      ∙ digits-div q (omega arith)
+
+  pub rounded-up : r < s → s ≤ 2 * r → rounded x s ≡ q + 1
+  rounded-up h k =
+      ap (λ (n : ℕ). n / (2 * s)) {x = 2 * (x * 255) + s} {y = (q + 1) * (2 * s) + (2 * r - s)}
+      (omega (arith, mul-left-comm q 2 s, add-mul q 1 (2 * s)))
+      ∙ digits-div (q + 1) (omega arith)
+
+-- ---- long division: after i digits, which are all 1, (2 ^ i - 1) times the state is q times the swing and r
+pub record Digits (x s i q r : ℕ) : Type 0 where
+  pub whole : 2 ^ i * x ≡ q * s + r + x
+  pub below : r < s
+  pub small : q + 2 ≤ 2 * 2 ^ i
+  pub count : i ≤ 8
+
+twice : (i : ℕ) → 2 ^ (i + 1) ≡ 2 * 2 ^ i
+twice i = ap (λ (n : ℕ). 2 ^ n) (add-one i) ∙ pow-succ' 2 i
+
+pub digits-more : (x s i q r : ℕ) (d e : Sum) → i < 8 → Digits x s i q r → Carried r r s d → Carried (d .rest) x s e →
+    Digits x s (i + 1) (2 * q + d .carry + e .carry) (e .rest)
+digits-more x s i q r d e l g f f′ = record {
+  whole = omega (arith, ap (λ (n : ℕ). n * x) (twice i), mul-assoc 2 (2 ^ i) x, g .whole, f .whole, f′ .whole, mul-assoc 2 q s, add-mul (2 * q + d .carry) (e .carry) s, add-mul (2 * q) (d .carry) s);
+  below = f′ .below;
+  small = omega (arith, twice i, g .small, f .one, f′ .one);
+  count = omega arith;
+}
+
+pub digits-done : (x s i q r : ℕ) → 8 ≤ i → Digits x s i q r → 255 * x ≡ q * s + r
+digits-done x s i q r h g = omega (arith, ap (λ (n : ℕ). 2 ^ n * x) {x = i} {y = 8} (omega (arith, g .count)), g .whole)
+
+pub digits-small : (x s i q r : ℕ) → Digits x s i q r → q ≤ 510
+digits-small x s i q r g = omega (arith, g .small, pow-mono (g .count))

@@ -1,0 +1,4 @@
+pub mod WalkLaws
+pub mod Coalescence
+pub mod TransferLaws
+pub mod GrayLaws

@@ -1,0 +1,63 @@
+-- `glass::gray` meets its contract. Below 2 ^ 54 the formula's own numbers fit 64 bits.
+use borrow.Author.Needs.{needs}
+use Prim.Native.Nat.{ℕ, _<_, _≤_, _+_, _*_, _/_, min}
+use mathlib.Core.Path.{_≡_, ap}
+use native.Mathlib.Nat.{div-zero}
+use native.Mathlib.Omega.{arith}
+use Rattle.glass.specs.Gray.{grayOf}
+use Rattle.glass.proofs.GrayLaws.{rounded, rounded-fits, gray-white}
+use Rattle.glass.proofs.gray.Statement.{statement}
+use Rattle.glass.proofs.gray.Tie as tie
+
+-- the code's quotient is the definition's
+quotient : (x s : ℕ) → (510 * x + s) / (2 * s) ≡ rounded x s
+quotient x s = ap (λ (n : ℕ). n / (2 * s)) (omega arith)
+
+returns : tie.Need-returns
+returns c = rw (c .if2 .taken) (omega (arith, div-zero (2 * (c .before .before .args .state * 255) + 0)))
+
+returns-2 : tie.Need-returns-2
+returns-2 c = gray-white (c .before .before .args .state) (c .before .before .args .swing) (omega arith) (omega arith)
+
+mul-result : tie.Need-mul-result
+mul-result c = search needs
+
+add-result : tie.Need-add-result
+add-result c = search needs
+
+mul-result-2 : tie.Need-mul-result-2
+mul-result-2 c = search needs
+
+div-result : tie.Need-div-result
+div-result c = search needs
+
+cast-result : tie.Need-cast-result
+cast-result c =
+    let s = c .before .before in
+    record { fits = omega (arith, quotient (s .args .state) (s .args .swing), rounded-fits (s .args .state) (s .args .swing) (omega arith) (omega arith)) }
+
+gray-wide-requires : tie.Need-gray-wide-requires
+gray-wide-requires c κs = search needs
+
+returns-3 : tie.Need-returns-3
+returns-3 c =
+    let s = c .before .before in
+    omega (arith, quotient (s .args .state) (s .args .swing), rounded-fits (s .args .state) (s .args .swing) (omega arith) (omega arith))
+
+returns-4 : tie.Need-returns-4
+returns-4 c = search needs
+
+pub gray-spec : {M : Type 1} → statement M
+gray-spec =
+    tie.close
+    (tie.spec
+    returns
+    returns-2
+    mul-result
+    add-result
+    mul-result-2
+    div-result
+    cast-result
+    gray-wide-requires
+    returns-3
+    returns-4)

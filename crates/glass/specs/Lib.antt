@@ -1,0 +1,5 @@
+pub mod Walk
+pub mod Gray
+pub mod Optics
+pub mod Transfer
+pub mod Division
