@@ -1,2 +1,5 @@
 pub mod Integer
 pub mod Product
+pub mod InTurn
+pub mod Cases
+pub mod Lists

@@ -1,2 +1,4 @@
 pub mod Word
 pub mod Integer
+pub mod Pick
+pub mod InTurn
