@@ -1,0 +1,65 @@
+-- `config::ds53_frame_periods` meets its contract. The loop's invariant: the first numbers are the periods of the codes passed.
+use mathlib.Core.Path.{_≡_, refl, sym, ap, _∙_}
+use Prim.Native.Nat.{_-_, _≤_}
+use native.Mathlib.Omega.{arith}
+use native.Mathlib.Numerals.{add-one}
+use borrow.Author.Needs.{needs}
+use lib.ListN.{length, take, length-set}
+use lib.Seq.{take-suc-set, take-all}
+use Rattle.config.specs.X3.{periodsTo}
+use Rattle.config.proofs.ds53_frame_periods.Statement.{statement}
+use Rattle.config.proofs.ds53_frame_periods.Tie as tie
+
+abbrev Inv-loop : tie.InvT-loop
+Inv-loop periods₀ code₀ periods code = (take code periods ≡ periodsTo code) × (code ≤ 32) × (length periods ≡ 32)
+
+abbrev μ-loop : tie.MeasureT-loop
+μ-loop periods₀ code₀ periods code = 32 - code
+
+loop-holds : tie.Need-loop-holds Inv-loop μ-loop
+loop-holds c = (refl, omega arith, refl)
+
+cast-ds53-frame-period : tie.Need-cast-ds53-frame-period Inv-loop μ-loop
+cast-ds53-frame-period c = search needs
+
+ds53-frame-period-requires : tie.Need-ds53-frame-period-requires Inv-loop μ-loop
+ds53-frame-period-requires c κs = search needs
+
+mul-periods : tie.Need-mul-periods Inv-loop μ-loop
+mul-periods c = search needs
+
+array-write-periods : tie.Need-array-write-periods Inv-loop μ-loop
+array-write-periods c = search needs
+
+add-code : tie.Need-add-code Inv-loop μ-loop
+add-code c = search needs
+
+loop-less : tie.Need-loop-less Inv-loop μ-loop
+loop-less c = omega arith
+
+loop-again : tie.Need-loop-again Inv-loop μ-loop
+loop-again c =
+    let l = c .before .before .loop in
+    (rw (add-one (l .code)) (take-suc-set (l .periods) (l .code) _ (omega arith) ∙ rw (l .inv .0, c .ds53-frame-period .ensures)), omega arith, simp length-set (l .inv .2))
+
+returns : tie.Need-returns Inv-loop μ-loop
+returns c =
+    let l = c .before .loop in
+    let e : l .code ≡ 32 = omega arith in
+    sym (take-all (l .code) (l .periods) (omega arith)) ∙ l .inv .0 ∙ ap periodsTo e
+
+pub ds53-frame-periods-spec : {M : Type 1} → statement M
+ds53-frame-periods-spec =
+    tie.close
+    (tie.spec
+    Inv-loop
+    μ-loop
+    loop-holds
+    cast-ds53-frame-period
+    ds53-frame-period-requires
+    mul-periods
+    array-write-periods
+    add-code
+    loop-less
+    loop-again
+    returns)

@@ -1,0 +1,2 @@
+pub mod X3
+pub mod Refusal
