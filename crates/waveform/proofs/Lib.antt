@@ -1,0 +1,4 @@
+pub mod TableLaws
+pub mod DriveLaws
+pub mod ProgressLaws
+pub mod FramesLaws

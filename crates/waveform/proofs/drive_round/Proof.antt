@@ -1,0 +1,93 @@
+-- `waveform::drive_round` meets its contract. After i phases the run extends the first by their frames.
+use borrow.Author.Needs.{needs}
+use mathlib.Core.Path.{_≡_, refl, sym, ap, subst, _∙_}
+use mathlib.Core.List.{List, [], _∷_, _++_}
+use Prim.Native.Nat.{ℕ, _+_, _-_, _*_, _≤_, _<_}
+use native.Mathlib.Omega.{arith}
+use lib.ListN.{length, getD, replicate}
+use lib.IntN.{ℤ}
+use Rattle.base.specs.InTurn.{inTurn}
+use Rattle.base.proofs.InTurn.{in-turn-more}
+use Rattle.waveform.specs.declared.Supply.{Supply}
+use Rattle.waveform.specs.declared.Progress.{Progress}
+use Rattle.waveform.specs.Frames.{driveOf}
+use Rattle.waveform.specs.Progress.{Extends}
+use Rattle.waveform.proofs.ProgressLaws.{extends-none, extends-more}
+use Rattle.waveform.proofs.drive_round.Statement.{statement}
+use Rattle.waveform.proofs.drive_round.Tie as tie
+
+-- the drive and the frames of phase p
+abbrev driveAt : Supply → List ℕ → List ℕ → ℕ → ℤ
+driveAt supply codes vcom p = driveOf (supply .levels) (supply .«frame_ns») (supply .«positive_drives_black») (getD codes p 0) (getD vcom p 0)
+
+abbrev framesAt : Supply → List ℕ → List ℕ → List ℕ → ℕ → List ℤ
+framesAt supply codes vcom frames p = replicate (getD frames p 0) (driveAt supply codes vcom p)
+
+abbrev Inv-loop : tie.InvT-loop
+Inv-loop supply swing vcom codes frames q₀ i₀ q i = Extends swing q₀ q (inTurn i (framesAt supply codes vcom frames)) × (i ≤ 4)
+
+abbrev μ-loop : tie.MeasureT-loop
+μ-loop supply swing vcom codes frames q₀ i₀ q i = 4 - i
+
+loop-holds : tie.Need-loop-holds Inv-loop μ-loop
+loop-holds c = (extends-none _ _, omega arith)
+
+array-read-wide : tie.Need-array-read-wide Inv-loop μ-loop
+array-read-wide c = search needs
+
+wide-requires : tie.Need-wide-requires Inv-loop μ-loop
+wide-requires c κs = search needs
+
+array-read-frame-drive : tie.Need-array-read-frame-drive Inv-loop μ-loop
+array-read-frame-drive c = search needs
+
+array-read-frame-drive-2 : tie.Need-array-read-frame-drive-2 Inv-loop μ-loop
+array-read-frame-drive-2 c = search needs
+
+frame-drive-requires : tie.Need-frame-drive-requires Inv-loop μ-loop
+frame-drive-requires c κs = search needs
+
+drive-phase-requires : tie.Need-drive-phase-requires Inv-loop μ-loop
+drive-phase-requires c κs = search needs
+
+add-i : tie.Need-add-i Inv-loop μ-loop
+add-i c = search needs
+
+loop-less : tie.Need-loop-less Inv-loop μ-loop
+loop-less c = search needs
+
+loop-again : tie.Need-loop-again Inv-loop μ-loop
+loop-again c =
+    let l = c .before .before .before .before .loop in
+    let s = c .before .before .before .before .before .before .before .args in
+    let phase : Extends (s .swing) (l .q) (c .drive-phase .result) (framesAt (s .supply) (s .group .codes) (s .t3) (s .group .frames) (l .i)) =
+    subst (λ (n : ℕ). Extends (s .swing) (l .q) (c .drive-phase .result) (replicate n (driveAt (s .supply) (s .group .codes) (s .t3) (l .i)))) (c .before .before .wide .ensures .0)
+    (c .drive-phase .ensures (driveAt (s .supply) (s .group .codes) (s .t3) (l .i)) (c .before .frame-drive .ensures)) in (
+      rw (← in-turn-more (l .i) (framesAt (s .supply) (s .group .codes) (s .t3) (s .group .frames)))
+          (extends-more (s .swing) (s .p) (l .q) (c .drive-phase .result) (inTurn (l .i) (framesAt (s .supply) (s .group .codes) (s .t3) (s .group .frames))) _ (l .inv .0) phase),
+      omega arith,
+    )
+
+returns : tie.Need-returns Inv-loop μ-loop
+returns c =
+    let l = c .before .loop in
+    let s = c .before .before .before .before .args in
+    subst (λ (n : ℕ). Extends (s .swing) (s .p) (l .q) (inTurn n (framesAt (s .supply) (s .group .codes) (s .t3) (s .group .frames)))) {x = l .i} {y = 4} (omega arith) (l .inv .0)
+
+pub drive-round-spec : {M : Type 1} → statement M
+drive-round-spec =
+    tie.close
+    (tie.spec
+    Inv-loop
+    μ-loop
+    loop-holds
+    array-read-wide
+    wide-requires
+    array-read-frame-drive
+    array-read-frame-drive-2
+    frame-drive-requires
+    drive-phase-requires
+    add-i
+    loop-less
+    loop-again
+    returns)

@@ -1,0 +1,110 @@
+-- `waveform::frame_drive` meets its contract: the parts of the two levels give the parts of the drive.
+use borrow.Author.Tests.{eq-eqb, ne-eqb}
+use mathlib.Core.Path.{_≡_, refl, sym, ap, _∙_}
+use mathlib.Core.Bool.{Bool, true, false}
+use lib.IntN.{ℤ}
+use Rattle.waveform.specs.declared.Drive.{Drive}
+use Rattle.waveform.specs.Progress.{Drives}
+use Prim.Native.Nat.{ℕ, _+_, _-_, _*_, _≤_, _<_, min}
+use native.Mathlib.Omega.{arith}
+use Rattle.base.specs.Word.{top}
+use Rattle.waveform.specs.Levels.{levelOf, floats}
+use Rattle.waveform.specs.Frames.{driveOf}
+use Rattle.waveform.proofs.DriveLaws.{rise, fall, drives-white, drives-black}
+use borrow.Author.Needs.{needs}
+use Rattle.waveform.proofs.frame_drive.Statement.{statement}
+use Rattle.waveform.proofs.frame_drive.Tie as tie
+
+returns : tie.Need-returns
+unfolding driveOf floats
+returns c = simp (eq-eqb _ _ (c .if1 .taken))
+
+level-of-requires : tie.Need-level-of-requires
+level-of-requires c κs = search needs
+
+level-of-requires-2 : tie.Need-level-of-requires-2
+level-of-requires-2 c κs = search needs
+
+cast-above : tie.Need-cast-above
+cast-above c = search needs
+
+cast-above-2 : tie.Need-cast-above-2
+cast-above-2 c = search needs
+
+add-above : tie.Need-add-above
+add-above c = search needs
+
+cast-below : tie.Need-cast-below
+cast-below c = search needs
+
+cast-below-2 : tie.Need-cast-below-2
+cast-below-2 c = search needs
+
+add-below : tie.Need-add-below
+add-below c = search needs
+
+energy-requires : tie.Need-energy-requires
+energy-requires c κs = search needs
+
+energy-requires-2 : tie.Need-energy-requires-2
+energy-requires-2 c κs = search needs
+
+-- after both energies: they are the rise and the fall of the pixel's two levels
+module _ (c : tie.After-energy2) where
+  abbrev start : tie.Start
+  start = c .before .before .before .before .before .before .before .before .before .before
+
+  abbrev source : ℤ
+  source = levelOf (start .args .supply .levels) (start .args .source)
+
+  abbrev common : ℤ
+  common = levelOf (start .args .supply .levels) (start .args .vcom)
+
+  held : floats (start .args .vcom) ≡ false
+  unfolding floats
+  held = ne-eqb _ _ (c .before .before .before .before .before .before .before .before .before .if1 .left)
+
+  rises : c .before .energy .result ≡ rise source common (start .args .supply .«frame_ns»)
+  rises =
+      let a = c .before .before .before .before .before .before .before .level-of .ensures in
+      let b = c .before .before .before .before .before .before .level-of2 .ensures in
+      c .before .energy .ensures ∙ (λ i. min ((a i .above + b i .below - (a i .below + b i .above)) * start .args .supply .«frame_ns») top)
+
+  falls : c .energy2 .result ≡ fall source common (start .args .supply .«frame_ns»)
+  falls =
+      let a = c .before .before .before .before .before .before .before .level-of .ensures in
+      let b = c .before .before .before .before .before .before .level-of2 .ensures in
+      c .energy2 .ensures ∙ (λ i. min ((a i .below + b i .above - (a i .above + b i .below)) * start .args .supply .«frame_ns») top)
+
+  abbrev drives : Bool → Drive
+  drives black = Drives (driveOf (start .args .supply .levels) (start .args .supply .«frame_ns») black (start .args .source) (start .args .vcom))
+
+returns-2 : tie.Need-returns-2
+returns-2 c =
+    (λ i. record { up = falls (c .before) i; down = rises (c .before) i })
+    ∙ sym (drives-black _ _ _ _ (held (c .before)))
+    ∙ ap (drives (c .before)) (sym (c .if2 .taken))
+
+returns-3 : tie.Need-returns-3
+returns-3 c =
+    (λ i. record { up = rises (c .before) i; down = falls (c .before) i })
+    ∙ sym (drives-white _ _ _ _ (held (c .before)))
+    ∙ ap (drives (c .before)) (sym (c .if2 .left))
+
+pub frame-drive-spec : {M : Type 1} → statement M
+frame-drive-spec =
+    tie.close
+    (tie.spec
+    returns
+    level-of-requires
+    level-of-requires-2
+    cast-above
+    cast-above-2
+    add-above
+    cast-below
+    cast-below-2
+    add-below
+    energy-requires
+    energy-requires-2
+    returns-2
+    returns-3)

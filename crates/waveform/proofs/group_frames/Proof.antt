@@ -1,0 +1,23 @@
+-- `waveform::group_frames` meets its contract: repeats and a round's frames are small, so their product fits.
+use mathlib.Core.Path.{_≡_, refl, sym, ap, _∙_}
+use Prim.Native.Nat.{ℕ, _+_, _-_, _*_, _≤_, _<_, min}
+use native.Mathlib.Omega.{arith}
+use native.Mathlib.Nat.{mul-le-mul}
+use borrow.Author.Needs.{needs}
+use Rattle.waveform.proofs.group_frames.Statement.{statement}
+use Rattle.waveform.proofs.group_frames.Tie as tie
+
+wide-requires : tie.Need-wide-requires
+wide-requires c κs = search needs
+
+round-frames-requires : tie.Need-round-frames-requires
+round-frames-requires c κs = search needs
+
+mul-result : tie.Need-mul-result
+mul-result c = record { fits = omega (arith, mul-le-mul (c .before .wide .ensures .1) (c .round-frames .ensures .1)) }
+
+returns : tie.Need-returns
+returns c = ((λ i. c .before .wide .ensures .0 i * c .round-frames .ensures .0 i), mul-le-mul (c .before .wide .ensures .1) (c .round-frames .ensures .1))
+
+pub group-frames-spec : {M : Type 1} → statement M
+group-frames-spec = tie.close (tie.spec wide-requires round-frames-requires mul-result returns)

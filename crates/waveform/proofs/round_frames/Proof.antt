@@ -1,0 +1,63 @@
+-- `waveform::round_frames` meets its contract: a sum of four bytes.
+use borrow.Author.Needs.{needs}
+use Prim.Native.Nat.{_+_, _≤_}
+use mathlib.Core.Path.{_≡_, _∙_, sym}
+use native.Mathlib.Omega.{arith}
+use Rattle.waveform.proofs.round_frames.Statement.{statement}
+use Rattle.waveform.proofs.round_frames.Tie as tie
+use Rattle.waveform.proofs.round_frames.Reads as reads
+use Rattle.waveform.proofs.round_frames.Lts as lts
+use Rattle.waveform.proofs.wide.Reads as wide-reads
+
+array-read-wide : tie.Need-array-read-wide
+array-read-wide c = search needs
+
+wide-requires : tie.Need-wide-requires
+wide-requires c κs = search needs
+
+array-read-wide-2 : tie.Need-array-read-wide-2
+array-read-wide-2 c = search needs
+
+wide-requires-2 : tie.Need-wide-requires-2
+wide-requires-2 c κs = search needs
+
+array-read-wide-3 : tie.Need-array-read-wide-3
+array-read-wide-3 c = search needs
+
+wide-requires-3 : tie.Need-wide-requires-3
+wide-requires-3 c κs = search needs
+
+array-read-wide-4 : tie.Need-array-read-wide-4
+array-read-wide-4 c = search needs
+
+wide-requires-4 : tie.Need-wide-requires-4
+wide-requires-4 c κs = search needs
+
+add-result : tie.Need-add-result
+add-result c = search needs
+
+add-result-2 : tie.Need-add-result-2
+add-result-2 c = search needs
+
+add-result-3 : tie.Need-add-result-3
+add-result-3 c = search needs
+
+returns : tie.Need-returns
+returns c = (omega arith, omega arith)
+
+pub round-frames-spec : {M : Type 1} → statement M
+round-frames-spec =
+    tie.close
+    (tie.spec
+    array-read-wide
+    wide-requires
+    array-read-wide-2
+    wide-requires-2
+    array-read-wide-3
+    wide-requires-3
+    array-read-wide-4
+    wide-requires-4
+    add-result
+    add-result-2
+    add-result-3
+    returns)

@@ -1,0 +1,4 @@
+pub mod Levels
+pub mod Tables
+pub mod Frames
+pub mod Progress

@@ -1,0 +1,437 @@
+// The waveform of the five LUT registers in KW mode and what it does to a pixel (waveform.rs).
+//
+// A LUT is seven groups of six bytes: four 2-bit level selects (phase A in bits 7:6), the frame
+// counts of the four phases, and how many times the group runs. The waveform ends after the seventh
+// group, or at the first group that runs no time or has no frame. A pixel's voltage in a phase is
+// its source level less VCOM's in the same phase.
+ghost use mathlib.Core.Path.{_≡_};
+ghost use mathlib.Core.List.{List};
+ghost use Prim.Native.Nat.{ℕ, _<_, _≤_, _-_, _/_, _*_, min};
+ghost use lib.ListN.{length, take, replicate};
+ghost use lib.IntN.{ℤ};
+ghost use Rattle.base.specs.Word.{top};
+ghost use Rattle.glass.specs.Transfer.{Acts};
+ghost use Rattle.waveform.specs.Levels.{supplyLevel, levelsOf, levelOf};
+ghost use Rattle.waveform.specs.Tables.{groupOf, tableOf, tablesOf, heldOf, waveformOf, sumOf, ends, running, counted, durationOf};
+ghost use Rattle.waveform.specs.Frames.{driveOf, vcomCodes, roundFrames, groupFrames, tableFrames, framesOf};
+ghost use Rattle.waveform.specs.Progress.{Parts, Drives, Extends};
+use base::greatest;
+use base::least;
+use base::saturating_mul;
+use base::saturating_sub;
+use glass::Transfer;
+
+// The LUTs: 0 drives VCOM (20), 1 to 4 the pixels by their old and new bits (21 to 24).
+pub const LUTS: usize = 5;
+
+// White stays white, black to white, white to black, black stays black.
+pub const LUT_WW: u8 = 1;
+
+pub const LUT_KW: u8 = 2;
+
+pub const LUT_WK: u8 = 3;
+
+pub const LUT_KK: u8 = 4;
+
+// Frames of VCOM_DC that the controller adds at the end of a waveform.
+const TAIL_FRAMES: u64 = 2;
+
+// The supply levels that a LUT selects, in millivolts; VDL lies below zero, and this is how far.
+pub struct Levels {
+    pub vdh: u16,
+    pub vdl: u16,
+    pub vdhr: u16,
+}
+
+// A supply level of PWR by its low six bits: 2.4 V and 0.2 V a step.
+pub fn supply_millivolts(code: u8) -> u16
+    ensures { λ r. ⌜ r ≡ supplyLevel code ⌝ }
+{
+    2400 + 200 * ((code % 64) as u16)
+}
+
+impl Levels {
+    // VDH, VDL and VDHR by the third, fourth and fifth byte of PWR.
+    pub fn from_power_setting(power: [u8; 5]) -> Levels
+        ensures { λ r. ⌜ r ≡ levelsOf power ⌝ }
+    {
+        Levels {
+            vdh: supply_millivolts(power[2]),
+            vdl: supply_millivolts(power[3]),
+            vdhr: supply_millivolts(power[4]),
+        }
+    }
+}
+
+// One group of a LUT.
+pub struct Group {
+    // The level selects of phases A to D.
+    pub codes: [u8; 4],
+    pub frames: [u8; 4],
+    // How many times the group runs.
+    pub repeats: u8,
+}
+
+// A LUT decoded.
+pub struct Table {
+    pub groups: [Group; 7],
+}
+
+// The five LUTs as a refresh reads them, with the supplies and the frame period: table 0 drives
+// VCOM, 1 to 4 the pixels by their old and new bits.
+pub struct Waveform {
+    pub tables: [Table; 5],
+    pub levels: Levels,
+    pub frame_ns: u64,
+}
+
+impl Group {
+    fn read(lut: [u8; 42], group: usize) -> Group
+        requires { ⌜ group < 7 ⌝ }
+        ensures { λ r. ⌜ r ≡ groupOf lut group ⌝ }
+    {
+        let at = group * 6;
+        let levels = lut[at];
+        Group {
+            codes: [levels / 64, levels / 16 % 4, levels / 4 % 4, levels % 4],
+            frames: [lut[at + 1], lut[at + 2], lut[at + 3], lut[at + 4]],
+            repeats: lut[at + 5],
+        }
+    }
+}
+
+fn decode_table(lut: [u8; 42]) -> [Group; 7]
+    ensures { λ r. ⌜ r ≡ tableOf lut ⌝ }
+{
+    let g0 = Group::read(lut, 0);
+    let g1 = Group::read(lut, 1);
+    let g2 = Group::read(lut, 2);
+    let g3 = Group::read(lut, 3);
+    let g4 = Group::read(lut, 4);
+    let g5 = Group::read(lut, 5);
+    let g6 = Group::read(lut, 6);
+    [g0, g1, g2, g3, g4, g5, g6]
+}
+
+// The five LUT registers, decoded.
+pub fn decode(luts: [[u8; 42]; 5]) -> [[Group; 7]; 5]
+    ensures { λ r. ⌜ r ≡ tablesOf luts ⌝ }
+{
+    let t0 = decode_table(luts[0]);
+    let t1 = decode_table(luts[1]);
+    let t2 = decode_table(luts[2]);
+    let t3 = decode_table(luts[3]);
+    let t4 = decode_table(luts[4]);
+    [t0, t1, t2, t3, t4]
+}
+
+fn wide(b: u8) -> u64
+    ensures { λ r. ⌜ (r ≡ b) × (r ≤ 255) ⌝ }
+{
+    b as u64
+}
+
+// The frames of one round of a group.
+fn round_frames(group: Group) -> u64
+    ensures { λ r. ⌜ (r ≡ sumOf (group .frames)) × (r ≤ 1020) ⌝ }
+{
+    let f = group.frames;
+    wide(f[0]) + (wide(f[1]) + (wide(f[2]) + wide(f[3])))
+}
+
+// The waveform ends here: the group runs no time, or has no frame.
+fn ends_table(group: Group) -> bool
+    ensures { λ r. ⌜ r ≡ ends group ⌝ }
+{
+    if group.repeats == 0 {
+        return true;
+    }
+    round_frames(group) == 0
+}
+
+// How many groups of a table run.
+fn running_groups(table: [Group; 7]) -> usize
+    ensures { λ r. ⌜ r ≡ length (running table) ⌝ }
+{
+    let mut k = 0;
+    while k < 7 {
+        if ends_table(table[k]) {
+            return k;
+        }
+        k += 1;
+    }
+    k
+}
+
+// The frames of a group, all its rounds together.
+fn group_frames(group: Group) -> u64
+    ensures { λ r. ⌜ (r ≡ group .repeats * sumOf (group .frames)) × (r ≤ 260100) ⌝ }
+{
+    wide(group.repeats) * round_frames(group)
+}
+
+// The frames of a table, up to its end.
+fn table_frames(table: [Group; 7]) -> u64
+    ensures { λ r. ⌜ (r ≡ counted table) × (r ≤ 1820700) ⌝ }
+{
+    let mut sum: u64 = 0;
+    let mut k: usize = 0;
+    while k < 7 {
+        if ends_table(table[k]) {
+            return sum;
+        }
+        sum += group_frames(table[k]);
+        k += 1;
+    }
+    sum
+}
+
+// A level or a voltage in millivolts, above zero or below; one of the two is 0.
+struct Volts {
+    above: u16,
+    below: u16,
+}
+
+fn level_of(levels: Levels, code: u8) -> Volts
+    ensures { λ r. ⌜ r ≡ Parts (levelOf levels code) ⌝ }
+{
+    let c = code % 4;
+    if c == 1 {
+        return Volts {
+            above: levels.vdh,
+            below: 0,
+        };
+    }
+    if c == 2 {
+        return Volts {
+            above: 0,
+            below: levels.vdl,
+        };
+    }
+    if c == 3 {
+        return Volts {
+            above: levels.vdhr,
+            below: 0,
+        };
+    }
+    Volts { above: 0, below: 0 }
+}
+
+// What every frame of a refresh has in common.
+struct Supply {
+    levels: Levels,
+    frame_ns: u64,
+    positive_drives_black: bool,
+}
+
+// The drive of one frame, up or down, held to 64 bits; one of the two is 0.
+struct Drive {
+    up: u64,
+    down: u64,
+}
+
+// above - below millivolts for a frame.
+fn energy(above: u64, below: u64, period: u64) -> u64
+    ensures { λ r. ⌜ r ≡ min ((above - below) * period) top ⌝ }
+{
+    saturating_mul(saturating_sub(above, below), period)
+}
+
+fn frame_drive(supply: Supply, source: u8, vcom: u8) -> Drive
+    ensures { λ r. ⌜ r ≡ Drives (driveOf (supply .levels) (supply .«frame_ns») (supply .«positive_drives_black») source vcom) ⌝ }
+{
+    if vcom % 4 == 3 {
+        return Drive { up: 0, down: 0 };
+    }
+    let levels = supply.levels;
+    let s = level_of(levels, source);
+    let v = level_of(levels, vcom);
+    let above = (s.above as u64) + (v.below as u64);
+    let below = (s.below as u64) + (v.above as u64);
+    let rise = energy(above, below, supply.frame_ns);
+    let fall = energy(below, above, supply.frame_ns);
+    if supply.positive_drives_black {
+        Drive {
+            up: fall,
+            down: rise,
+        }
+    } else {
+        Drive {
+            up: rise,
+            down: fall,
+        }
+    }
+}
+
+// A run so far, and the frames that are left to drive.
+struct Progress {
+    run: Transfer,
+    left: u64,
+}
+
+// A phase: n frames of one drive, or what is left.
+fn drive_phase(p: Progress, n: u64, drive: Drive, swing: u64) -> Progress
+    ensures { λ r. ⌜ ((z : ℤ) → drive ≡ Drives z → Extends swing p r (replicate n z)) ⌝ }
+{
+    let run = p.run;
+    let left = p.left;
+    let k = least(n, left);
+    let up = saturating_mul(k, drive.up);
+    let down = saturating_mul(k, drive.down);
+    let all = run.then(Transfer::shift(up, down, swing));
+    Progress {
+        run: all,
+        left: left - k,
+    }
+}
+
+// The four phases in turn.
+fn drive_round(p: Progress, group: Group, vcom: [u8; 4], supply: Supply, swing: u64) -> Progress
+    ensures { λ r. ⌜ Extends swing p r (roundFrames (supply .levels) (supply .«frame_ns») (supply .«positive_drives_black») group vcom) ⌝ }
+{
+    let codes = group.codes;
+    let frames = group.frames;
+    let mut q = p;
+    for i in 0usize..4 {
+        q = drive_phase(
+            q,
+            wide(frames[i]),
+            frame_drive(supply, codes[i], vcom[i]),
+            swing,
+        );
+    }
+    q
+}
+
+// The round, as often as the group's repeats say.
+fn drive_group(p: Progress, group: Group, vcom: [u8; 4], supply: Supply, swing: u64) -> Progress
+    ensures { λ r. ⌜ Extends swing p r (groupFrames (supply .levels) (supply .«frame_ns») (supply .«positive_drives_black») group vcom) ⌝ }
+{
+    let repeats = wide(group.repeats);
+    let mut q = p;
+    for i in 0u64..repeats {
+        q = drive_round(q, group, vcom, supply, swing);
+    }
+    q
+}
+
+// VCOM's codes in a group, of whose groups `running` run: 0 once its table has ended.
+fn vcom_codes(vcom: [Group; 7], runs: usize, group: usize) -> [u8; 4]
+    requires { ⌜ runs ≡ length (running vcom) ⌝ }
+    ensures { λ r. ⌜ r ≡ vcomCodes vcom group ⌝ }
+{
+    if group < runs {
+        let g = vcom[group];
+        return g.codes;
+    }
+    [0; 4]
+}
+
+// The first frames of a table, group by group.
+fn drive_table(table: [Group; 7], vcom: [Group; 7], supply: Supply, swing: u64, n: u64) -> Transfer
+    ensures { λ r. ⌜ Acts swing r (take n (tableFrames (supply .levels) (supply .«frame_ns») (supply .«positive_drives_black») table vcom)) ⌝ }
+{
+    let runs = running_groups(table);
+    let vcom_runs = running_groups(vcom);
+    let run = Transfer::identity(swing);
+    let mut q = Progress { run, left: n };
+    for k in 0usize..runs {
+        q = drive_group(q, table[k], vcom_codes(vcom, vcom_runs, k), supply, swing);
+    }
+    q.run
+}
+
+// The whole frames that some time holds: (clock - start) / period, rounded down. A start that lies
+// above the clock has run no time, and a period of 0, which no panel has, holds no frame.
+pub fn whole_frames(clock: u64, start: u64, period: u64) -> u64
+    ensures { λ r. ⌜ r ≡ (clock - start) / period ⌝ }
+{
+    if period == 0 {
+        return 0;
+    }
+    saturating_sub(clock, start) / period
+}
+
+fn frames_in(table: Table) -> u64
+    ensures { λ r. ⌜ (r ≡ counted (table .groups)) × (r ≤ 1820700) ⌝ }
+{
+    let groups = table.groups;
+    table_frames(groups)
+}
+
+fn held(groups: [Group; 7]) -> Table
+    ensures { λ r. ⌜ r ≡ heldOf groups ⌝ }
+{
+    Table { groups }
+}
+
+impl Waveform {
+    // The LUT registers decoded, for a refresh at these levels and this frame period.
+    pub fn new(luts: [[u8; 42]; 5], levels: Levels, frame_ns: u64) -> Waveform
+        ensures { λ r. ⌜ r ≡ waveformOf luts levels «frame_ns» ⌝ }
+    {
+        let t = decode(luts);
+        let tables = [held(t[0]), held(t[1]), held(t[2]), held(t[3]), held(t[4])];
+        Waveform {
+            tables,
+            levels,
+            frame_ns,
+        }
+    }
+
+    // How long the refresh drives the glass: the longest of the five LUTs, then two frames of
+    // VCOM_DC.
+    pub fn duration_ns(self) -> u64
+        ensures { λ r. ⌜ r ≡ durationOf self ⌝ }
+    {
+        let t0 = self.tables[0];
+        let t1 = self.tables[1];
+        let t2 = self.tables[2];
+        let t3 = self.tables[3];
+        let t4 = self.tables[4];
+        let n3 = greatest(frames_in(t3), frames_in(t4));
+        let n2 = greatest(frames_in(t2), n3);
+        let n1 = greatest(frames_in(t1), n2);
+        let n0 = greatest(frames_in(t0), n1);
+        saturating_mul(n0 + TAIL_FRAMES, self.frame_ns)
+    }
+
+    // What table `lut` does to a state of 0 ..= swing over the first n frames of the refresh.
+    pub fn transfer_first(
+        self,
+        lut: usize,
+        swing: u64,
+        positive_drives_black: bool,
+        n: u64,
+    ) -> Transfer
+        ensures { λ r. ⌜ Acts swing r (take n (framesOf self «positive_drives_black» lut)) ⌝ }
+    {
+        if LUTS <= lut {
+            return Transfer::identity(swing);
+        }
+        let t = self.tables[lut];
+        let v = self.tables[0];
+        let table = t.groups;
+        let vcom = v.groups;
+        let levels = self.levels;
+        let frame_ns = self.frame_ns;
+        let supply = Supply {
+            levels,
+            frame_ns,
+            positive_drives_black,
+        };
+        drive_table(table, vcom, supply, swing, n)
+    }
+
+    // What table `lut` does to a state of 0 ..= swing over the whole refresh.
+    pub fn transfer(self, lut: usize, swing: u64, positive_drives_black: bool) -> Transfer
+        ensures { λ r. ⌜ Acts swing r (framesOf self «positive_drives_black» lut) ⌝ }
+    {
+        if LUTS <= lut {
+            return Transfer::identity(swing);
+        }
+        let t = self.tables[lut];
+        let n = frames_in(t);
+        self.transfer_first(lut, swing, positive_drives_black, n)
+    }
+}
