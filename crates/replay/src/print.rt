@@ -1,5 +1,4 @@
 // What the program writes.
-use crate::table::Row;
 use crate::table::Table;
 use crate::table::Tally;
 use libc::STDOUT_FILENO;
@@ -12,6 +11,9 @@ fn name(table: Table) {
         Table::Gray => {
             io::write_all(STDOUT_FILENO, b"gray");
         }
+        Table::Refresh => {
+            io::write_all(STDOUT_FILENO, b"refresh");
+        }
     }
 }
 
@@ -20,16 +22,12 @@ fn number(n: u64) {
     io::print_decimal(STDOUT_FILENO, n);
 }
 
-// A row that differs: its table, its index, its numbers.
-pub(crate) fn row(table: Table, index: u64, r: Row) {
+// A row that differs, by its index from 0.
+pub(crate) fn row(table: Table, index: u64) {
     name(table);
     io::write_all(STDOUT_FILENO, b" row");
     number(index);
-    io::write_all(STDOUT_FILENO, b":");
-    number(r.given);
-    number(r.swing);
-    number(r.answer);
-    io::write_all(STDOUT_FILENO, b"\n");
+    io::write_all(STDOUT_FILENO, b" differs\n");
 }
 
 // A table's last line.

@@ -1,0 +1,24 @@
+// Replays stored answers of the Rust (oracle/README.md says how they are made): standard input holds
+// tables, each a count and then so many rows. Prints a line for each row that differs, and a last
+// line for each table.
+mod print;
+mod refresh;
+mod table;
+
+use libc::STDIN_FILENO;
+use table::Table;
+
+fn replay(s: &[u8]) {
+    let levels = table::compared(Table::Level, s, 0);
+    print::summary(Table::Level, levels);
+    let grays = table::compared(Table::Gray, s, levels.next);
+    print::summary(Table::Gray, grays);
+    let refreshes = table::compared(Table::Refresh, s, grays.next);
+    print::summary(Table::Refresh, refreshes);
+}
+
+fn main() {
+    let mut buffer = [0u8; 2097152];
+    let n = io::read_full(STDIN_FILENO, &mut buffer);
+    replay(&buffer[..n]);
+}
