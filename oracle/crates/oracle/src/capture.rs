@@ -1,0 +1,254 @@
+//! The capture file of document 01: its layout, and refusals 8 and 9.
+
+use chips::glass::{Optics, Provenance};
+use chips::uc8253::{FRAME_RATE_CODES, Uc8253Config, Uc8253Geometry, Uc8253Timing, Variant};
+
+use crate::refusal::Refusal;
+
+pub const EVENT_BYTES: usize = 10;
+pub const CONFIGURATION_BYTES: usize = 312;
+pub const TRAILER_BYTES: usize = 8;
+/// What follows the events: the configuration and the trailer that points back to it.
+pub const TAIL_BYTES: usize = CONFIGURATION_BYTES + TRAILER_BYTES;
+pub const MOST_BYTES: usize = 65_536;
+pub const MOST_EVENTS: usize = (MOST_BYTES - TAIL_BYTES) / EVENT_BYTES;
+
+/// The kinds of event.
+pub const COMMAND: u8 = 1;
+pub const DATA: u8 = 2;
+pub const READ: u8 = 3;
+pub const RESET: u8 = 4;
+pub const ADVANCE: u8 = 5;
+
+pub const ROWS_REVERSED: u8 = 1 << 0;
+pub const COLUMNS_REVERSED: u8 = 1 << 1;
+pub const POSITIVE_DRIVES_BLACK: u8 = 1 << 2;
+const LISTED_FLAGS: u8 = ROWS_REVERSED | COLUMNS_REVERSED | POSITIVE_DRIVES_BLACK;
+
+const VARIANTS: [Variant; 2] = [Variant::Uc8253, Variant::Uc8279d];
+
+/// Where the periods begin in the configuration.
+const PERIODS_AT: usize = 56;
+
+fn number(bytes: &[u8], at: usize) -> u64 {
+    let mut word = [0; 8];
+    word.copy_from_slice(&bytes[at..at + 8]);
+    u64::from_le_bytes(word)
+}
+
+fn half(bytes: &[u8], at: usize) -> u16 {
+    u16::from_le_bytes([bytes[at], bytes[at + 1]])
+}
+
+#[derive(Clone, Copy, Debug, PartialEq, Eq)]
+pub struct Event {
+    pub time: u64,
+    pub kind: u8,
+    pub value: u8,
+}
+
+impl Event {
+    pub fn decode(bytes: &[u8]) -> Event {
+        Event {
+            time: number(bytes, 0),
+            kind: bytes[8],
+            value: bytes[9],
+        }
+    }
+
+    fn encode(self, file: &mut Vec<u8>) {
+        file.extend(self.time.to_le_bytes());
+        file.extend([self.kind, self.value]);
+    }
+
+    /// Whether document 01 lists the kind, and the value for it.
+    pub fn is_listed(self) -> bool {
+        match self.kind {
+            COMMAND | DATA => true,
+            RESET => self.value <= 1,
+            READ | ADVANCE => self.value == 0,
+            _ => false,
+        }
+    }
+}
+
+/// The configuration as the file holds it, whatever its values.
+#[derive(Clone, Debug, PartialEq, Eq)]
+pub struct Configuration {
+    pub variant: u8,
+    pub flags: u8,
+    pub sources: u16,
+    pub gates: u16,
+    pub initial_grey: u8,
+    pub ambient: u8,
+    pub full_swing: u64,
+    pub power_on: u64,
+    pub power_off: u64,
+    pub deep_sleep: u64,
+    pub soft_reset: u64,
+    pub hardware_reset: u64,
+    pub periods: [u64; FRAME_RATE_CODES],
+}
+
+impl Configuration {
+    pub fn decode(bytes: &[u8]) -> Configuration {
+        Configuration {
+            variant: bytes[0],
+            flags: bytes[1],
+            sources: half(bytes, 2),
+            gates: half(bytes, 4),
+            initial_grey: bytes[6],
+            ambient: bytes[7],
+            full_swing: number(bytes, 8),
+            power_on: number(bytes, 16),
+            power_off: number(bytes, 24),
+            deep_sleep: number(bytes, 32),
+            soft_reset: number(bytes, 40),
+            hardware_reset: number(bytes, 48),
+            periods: std::array::from_fn(|code| number(bytes, PERIODS_AT + 8 * code)),
+        }
+    }
+
+    fn encode(&self, file: &mut Vec<u8>) {
+        file.extend([self.variant, self.flags]);
+        file.extend(self.sources.to_le_bytes());
+        file.extend(self.gates.to_le_bytes());
+        file.extend([self.initial_grey, self.ambient]);
+        for time in [
+            self.full_swing,
+            self.power_on,
+            self.power_off,
+            self.deep_sleep,
+            self.soft_reset,
+            self.hardware_reset,
+        ] {
+            file.extend(time.to_le_bytes());
+        }
+        for period in self.periods {
+            file.extend(period.to_le_bytes());
+        }
+    }
+
+    pub fn flag(&self, bit: u8) -> bool {
+        self.flags & bit != 0
+    }
+
+    pub fn is_listed(&self) -> bool {
+        usize::from(self.variant) < VARIANTS.len() && self.flags & !LISTED_FLAGS == 0
+    }
+
+    pub fn pixels(&self) -> u64 {
+        u64::from(self.sources) * u64::from(self.gates)
+    }
+
+    /// The configuration as the published Rust takes it; the variant is one of the two.
+    pub fn chip(&self) -> Uc8253Config {
+        Uc8253Config {
+            variant: VARIANTS[usize::from(self.variant)],
+            panel: Uc8253Geometry {
+                sources: self.sources,
+                gates: self.gates,
+                rows_reversed: self.flag(ROWS_REVERSED),
+                columns_reversed: self.flag(COLUMNS_REVERSED),
+            },
+            optics: Optics {
+                provenance: Provenance::Approximation,
+                full_swing: self.full_swing,
+                positive_drives_black: self.flag(POSITIVE_DRIVES_BLACK),
+                initial_gray: self.initial_grey,
+            },
+            timing: Uc8253Timing {
+                provenance: Provenance::Approximation,
+                power_on: self.power_on,
+                power_off: self.power_off,
+                deep_sleep: self.deep_sleep,
+                soft_reset: self.soft_reset,
+                hardware_reset: self.hardware_reset,
+                frame_period: self.periods,
+            },
+            ambient_celsius: i8::from_le_bytes([self.ambient]),
+        }
+    }
+}
+
+/// The file's last eight bytes.
+#[derive(Clone, Copy, Debug, PartialEq, Eq)]
+pub struct Trailer {
+    pub offset: u32,
+    pub count: u32,
+}
+
+impl Trailer {
+    pub fn decode(bytes: &[u8]) -> Trailer {
+        let word = |at: usize| u32::from_le_bytes([0, 1, 2, 3].map(|byte| bytes[at + byte]));
+        Trailer {
+            offset: word(0),
+            count: word(4),
+        }
+    }
+
+    /// Whether a file of `length` bytes ends as this trailer says; the products are exact.
+    pub fn fits(self, length: usize) -> bool {
+        let offset = u64::from(self.offset);
+        offset == EVENT_BYTES as u64 * u64::from(self.count)
+            && length as u64 == offset + TAIL_BYTES as u64
+    }
+}
+
+#[derive(Clone, Debug, PartialEq, Eq)]
+pub struct Capture {
+    pub configuration: Configuration,
+    pub events: Vec<Event>,
+}
+
+impl Capture {
+    pub fn encode(&self) -> Vec<u8> {
+        let mut file = Vec::with_capacity(EVENT_BYTES * self.events.len() + TAIL_BYTES);
+        for event in &self.events {
+            event.encode(&mut file);
+        }
+        let offset = file.len();
+        self.configuration.encode(&mut file);
+        for word in [offset, self.events.len()] {
+            let word = u32::try_from(word).expect("a capture is far below 4 GiB");
+            file.extend(word.to_le_bytes());
+        }
+        file
+    }
+
+    /// The events and the configuration where a whole file has them; bytes left over before the
+    /// configuration are passed over. None if there is no room for a configuration.
+    pub fn salvage(file: &[u8]) -> Option<Capture> {
+        let events = &file[..file.len().checked_sub(TAIL_BYTES)?];
+        Some(Capture {
+            configuration: Configuration::decode(&file[events.len()..]),
+            events: events
+                .chunks_exact(EVENT_BYTES)
+                .map(Event::decode)
+                .collect(),
+        })
+    }
+
+    /// Refusal 8's test.
+    pub fn is_whole(file: &[u8]) -> bool {
+        (TAIL_BYTES..=MOST_BYTES).contains(&file.len())
+            && Trailer::decode(&file[file.len() - TRAILER_BYTES..]).fits(file.len())
+    }
+
+    /// Refusal 9's test.
+    pub fn is_listed(&self) -> bool {
+        self.configuration.is_listed() && self.events.iter().all(|event| event.is_listed())
+    }
+
+    /// The capture of a file, or refusal 8 or 9.
+    pub fn read(file: &[u8]) -> Result<Capture, Refusal> {
+        if !Capture::is_whole(file) {
+            return Err(Refusal::BrokenCapture);
+        }
+        let capture = Capture::salvage(file).ok_or(Refusal::BrokenCapture)?;
+        if !capture.is_listed() {
+            return Err(Refusal::BadEvent);
+        }
+        Ok(capture)
+    }
+}

@@ -1,0 +1,44 @@
+//! Captures made from a seed: realistic sessions, hostile ones and damaged files.
+
+mod bench;
+mod damage;
+mod hostile;
+mod panel;
+mod session;
+mod settings;
+mod tables;
+mod window;
+
+use crate::capture::{Capture, MOST_EVENTS};
+use crate::rng::Rng;
+
+use bench::Bench;
+
+/// The file of `seed`, always the same.
+pub fn make(seed: u64) -> Vec<u8> {
+    let mut rng = Rng::new(seed);
+    match rng.below(1_000) {
+        0..=99 => damage::damaged(rng),
+        100..=104 => silent(rng).encode(),
+        105..=109 => full(rng).encode(),
+        110..=121 => hostile::flood(Bench::new(panel::matched(rng))).encode(),
+        122..=221 => hostile::storm(Bench::new(panel::extreme(rng))).encode(),
+        222..=281 => hostile::storm(Bench::new(panel::matched(rng))).encode(),
+        282..=381 => session::session(Bench::new(panel::extreme(rng))).encode(),
+        _ => session::session(Bench::new(panel::matched(rng))).encode(),
+    }
+}
+
+/// A capture without events.
+fn silent(rng: Rng) -> Capture {
+    Bench::new(panel::matched(rng)).capture()
+}
+
+/// A session that goes on until no further event fits.
+fn full(rng: Rng) -> Capture {
+    let mut bench = Bench::new(panel::matched(rng));
+    while bench.count() < MOST_EVENTS {
+        session::turns(&mut bench);
+    }
+    bench.capture()
+}

@@ -1,0 +1,79 @@
+//! `oracle glass`: answers of the published `level` and `gray`, one a line.
+
+use std::fmt::Write;
+
+use chips::probe;
+
+use crate::rng::Rng;
+
+const MOST_SWING: u64 = i64::MAX as u64;
+
+/// Swings at which a form other than the Rust's 128-bit one can go wrong.
+const EDGE_SWINGS: [u64; 13] = [
+    1,
+    2,
+    254,
+    255,
+    256,
+    509,
+    510,
+    511,
+    (1 << 54) - 1,
+    1 << 54,
+    (1 << 54) + 1,
+    MOST_SWING - 1,
+    MOST_SWING,
+];
+
+fn swing(rng: &mut Rng) -> u64 {
+    if rng.chance(50) {
+        rng.pick(&EDGE_SWINGS)
+    } else {
+        rng.wide(63)
+    }
+}
+
+/// The least state of grey `grey` or above: (2 grey - 1) / 510 of the swing, rounded up.
+fn turn(grey: u8, swing: u64) -> u64 {
+    let halves = (2 * u128::from(grey)).saturating_sub(1);
+    (halves * u128::from(swing)).div_ceil(510) as u64
+}
+
+fn state(rng: &mut Rng, swing: u64) -> u64 {
+    match rng.below(8) {
+        0 => rng.pick(&[0, 1, swing - 1, swing]),
+        1..=3 => turn(rng.byte(), swing),
+        4..=5 => turn(rng.byte(), swing).saturating_sub(1),
+        _ => rng.between(0, swing),
+    }
+}
+
+fn grey(rng: &mut Rng) -> u8 {
+    if rng.chance(20) {
+        rng.pick(&[0, 1, 254, 255])
+    } else {
+        rng.byte()
+    }
+}
+
+fn signed(number: u64) -> i64 {
+    i64::try_from(number).expect("states and swings stay below 2^63")
+}
+
+pub fn glass(seed: u64, count: u64) -> String {
+    let mut rng = Rng::new(seed);
+    let mut text = String::new();
+    for _ in 0..count {
+        let swing = swing(&mut rng);
+        let _ = if rng.chance(33) {
+            let grey = grey(&mut rng);
+            let state = probe::level(grey, signed(swing));
+            writeln!(text, "level {grey} {swing} {state}")
+        } else {
+            let state = state(&mut rng, swing);
+            let grey = probe::gray(signed(state), signed(swing));
+            writeln!(text, "gray {state} {swing} {grey}")
+        };
+    }
+    text
+}

@@ -1,0 +1,90 @@
+//! `oracle`: runs captures through the published Rust of the controller, and makes captures.
+
+mod capture;
+mod cases;
+mod generate;
+mod glass;
+mod list;
+mod names;
+mod planes;
+mod refusal;
+mod registers;
+mod rng;
+mod rows;
+mod run;
+mod script;
+mod stats;
+mod tally;
+#[cfg(test)]
+mod tests;
+mod trace;
+mod watch;
+
+use std::io::{self, ErrorKind, Read, Write};
+use std::path::Path;
+use std::process::ExitCode;
+
+const USAGE: &str = "usage: oracle run | trace | list          (a capture on standard input)
+       oracle make SEED
+       oracle stats SEED N
+       oracle glass SEED N
+       oracle cases DIR | check DIR
+";
+
+fn input() -> io::Result<Vec<u8>> {
+    let mut file = Vec::new();
+    io::stdin().lock().read_to_end(&mut file)?;
+    Ok(file)
+}
+
+/// Writes to standard output; a reader that went away is no error.
+fn say(bytes: impl AsRef<[u8]>) -> io::Result<()> {
+    let mut output = io::stdout().lock();
+    match output
+        .write_all(bytes.as_ref())
+        .and_then(|()| output.flush())
+    {
+        Err(error) if error.kind() == ErrorKind::BrokenPipe => Ok(()),
+        result => result,
+    }
+}
+
+fn number(word: &str) -> io::Result<u64> {
+    word.parse()
+        .map_err(|error| io::Error::new(ErrorKind::InvalidInput, format!("{word}: {error}")))
+}
+
+fn obey(words: &[&str]) -> io::Result<ExitCode> {
+    match words {
+        ["run"] => say(run::run(&input()?))?,
+        ["trace"] => say(trace::trace(&input()?))?,
+        ["list"] => say(list::list(&input()?))?,
+        ["make", seed] => say(generate::make(number(seed)?))?,
+        ["stats", seed, count] => say(stats::stats(number(seed)?, number(count)?))?,
+        ["glass", seed, count] => say(glass::glass(number(seed)?, number(count)?))?,
+        ["cases", directory] => cases::write(Path::new(directory))?,
+        ["check", directory] => {
+            let (text, equal) = cases::check(Path::new(directory))?;
+            say(text)?;
+            return Ok(if equal {
+                ExitCode::SUCCESS
+            } else {
+                ExitCode::FAILURE
+            });
+        }
+        _ => {
+            eprint!("{USAGE}");
+            return Ok(ExitCode::from(2));
+        }
+    }
+    Ok(ExitCode::SUCCESS)
+}
+
+fn main() -> ExitCode {
+    let arguments: Vec<String> = std::env::args().skip(1).collect();
+    let words: Vec<&str> = arguments.iter().map(String::as_str).collect();
+    obey(&words).unwrap_or_else(|error| {
+        eprintln!("oracle: {error}");
+        ExitCode::from(2)
+    })
+}

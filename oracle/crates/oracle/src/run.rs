@@ -1,0 +1,134 @@
+//! `oracle run`: a capture through the published Rust, printed as document 01's program prints.
+
+use std::fmt::Write;
+
+use chips::lines::ONE_GIGAHERTZ;
+use chips::uc8253::{PanelImage, RefreshKind, Uc8253};
+use emu_core::Cycles;
+
+use crate::capture::{self, Capture, Configuration, Event};
+use crate::refusal::Refusal;
+use crate::rows;
+
+/// The most pixels of the program's panel.
+pub const MOST_PIXELS: u64 = 8_000;
+
+/// The chip of a configuration, or refusals 1 to 4 by the Rust's own test, then 10.
+pub fn make(configuration: &Configuration) -> Result<Uc8253, Refusal> {
+    let chip = Uc8253::new(configuration.chip(), ONE_GIGAHERTZ)?;
+    if configuration.pixels() > MOST_PIXELS {
+        return Err(Refusal::TooManyPixels);
+    }
+    Ok(chip)
+}
+
+/// The capture and its chip at making, or the first refusal in the program's order.
+pub fn accept(file: &[u8]) -> Result<(Capture, Uc8253), Refusal> {
+    let capture = Capture::read(file)?;
+    let chip = make(&capture.configuration)?;
+    Ok((capture, chip))
+}
+
+/// What a read event gives: outer none for an event that is no read.
+pub type Answer = Option<Option<u8>>;
+
+/// Lets the chip meet one listed event.
+pub fn step(chip: &mut Uc8253, event: Event) -> Answer {
+    let now = Cycles(event.time);
+    match event.kind {
+        capture::COMMAND => chip.write_command(now, event.value),
+        capture::DATA => chip.write_data(now, event.value),
+        capture::READ => return Some(chip.read_data(now)),
+        capture::RESET => chip.set_reset(now, event.value == 1),
+        _ => chip.advance(now),
+    }
+    None
+}
+
+/// What the whole run leaves to print.
+pub struct Outcome {
+    /// The event's time and its byte, for each read.
+    pub reads: Vec<(u64, Option<u8>)>,
+    pub rows: Vec<[u64; 5]>,
+    pub dropped: u64,
+    pub image: PanelImage,
+}
+
+/// Runs the events of an accepted capture; `watch` sees the chip after each.
+pub fn events(
+    mut chip: Uc8253,
+    events: &[Event],
+    mut watch: impl FnMut(usize, Event, &Uc8253),
+) -> Outcome {
+    let mut reads = Vec::new();
+    for (index, &event) in events.iter().enumerate() {
+        if let Some(byte) = step(&mut chip, event) {
+            reads.push((event.time, byte));
+        }
+        watch(index, event, &chip);
+    }
+    Outcome {
+        reads,
+        dropped: chip.dropped_diagnostics(),
+        rows: chip.take_diagnostics().iter().map(rows::numbers).collect(),
+        image: chip.panel_image().clone(),
+    }
+}
+
+fn words(numbers: impl IntoIterator<Item = u64>) -> String {
+    let words: Vec<String> = numbers.into_iter().map(|n| n.to_string()).collect();
+    words.join(" ")
+}
+
+fn kind_word(kind: RefreshKind) -> &'static str {
+    match kind {
+        RefreshKind::PowerOn => "poweron",
+        RefreshKind::Full => "full",
+        RefreshKind::Partial => "partial",
+    }
+}
+
+fn picture(image: &PanelImage) -> String {
+    let mut text = format!(
+        "image {} {} {} {} {} {} {}\n",
+        image.width,
+        image.height,
+        image.generation,
+        kind_word(image.kind),
+        u8::from(image.interrupted),
+        image.started.get(),
+        image.at.get(),
+    );
+    for row in image.pixels.chunks(usize::from(image.width)) {
+        text += &words(row.iter().map(|&grey| u64::from(grey)));
+        text.push('\n');
+    }
+    text
+}
+
+/// The program's lines for a run that was accepted.
+pub fn report(outcome: &Outcome) -> String {
+    let mut text = String::new();
+    for (time, byte) in &outcome.reads {
+        let byte = byte.map_or("none".to_string(), |byte| byte.to_string());
+        let _ = writeln!(text, "read {time} {byte}");
+    }
+    for row in &outcome.rows {
+        let _ = writeln!(text, "diag {}", words(*row));
+    }
+    let _ = writeln!(text, "dropped {}", outcome.dropped);
+    text + &picture(&outcome.image)
+}
+
+/// The program's line for a refused capture.
+pub fn refused(refusal: Refusal) -> String {
+    format!("refused {}\n", refusal.number())
+}
+
+/// Exactly what document 01's program prints for `file`.
+pub fn run(file: &[u8]) -> String {
+    match accept(file) {
+        Err(refusal) => refused(refusal),
+        Ok((capture, chip)) => report(&events(chip, &capture.events, |_, _, _| ())),
+    }
+}

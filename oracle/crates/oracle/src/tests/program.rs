@@ -1,0 +1,69 @@
+//! The program's other parts: digests of planes, stored cases, generated captures.
+
+use chips::uc8253::{Plane, RAM_GATES};
+
+use crate::planes::{self, Planes};
+use crate::{cases, generate, run, stats, trace};
+
+/// Digests that are kept are those taken anew over the whole planes.
+#[test]
+fn kept_digests_are_true() {
+    for seed in 1..60 {
+        let Ok((capture, chip)) = run::accept(&generate::make(seed)) else {
+            continue;
+        };
+        let last = capture.events.len();
+        let mut kept = Planes::at_making(&chip);
+        run::events(chip, &capture.events, |index, event, chip| {
+            kept.follow(event, chip);
+            if index % 97 == 0 || index + 1 == last {
+                let old = planes::digest(chip, Plane::Old, RAM_GATES);
+                let new = planes::digest(chip, Plane::New, RAM_GATES);
+                assert_eq!(
+                    (kept.old, kept.new),
+                    (old, new),
+                    "seed {seed} event {index}"
+                );
+            }
+        });
+    }
+}
+
+#[test]
+fn a_trace_ends_with_the_run() {
+    for seed in 1..20 {
+        let file = generate::make(seed);
+        let (trace, run) = (trace::trace(&file), run::run(&file));
+        assert!(trace.ends_with(&run), "seed {seed}");
+    }
+}
+
+#[test]
+fn the_stored_cases_are_the_written_ones() {
+    let directory = std::path::Path::new(env!("CARGO_MANIFEST_DIR")).join("../../cases");
+    let (text, equal) = cases::check(&directory).expect("the cases can be read");
+    assert!(equal, "{text}");
+    for case in cases::all() {
+        let path = directory.join(format!("{}.capture", case.name));
+        let stored = std::fs::read(path).expect("each case is stored");
+        assert_eq!(stored, case.file, "{}", case.name);
+    }
+}
+
+#[test]
+fn a_seed_makes_one_capture_and_seeds_differ() {
+    assert_eq!(generate::make(5), generate::make(5));
+    assert_ne!(generate::make(5), generate::make(6));
+}
+
+#[test]
+fn counts_do_not_depend_on_the_threads() {
+    let line = |text: &str, word: &str| {
+        let found = text.lines().find(|line| line.starts_with(word));
+        found.and_then(|line| line.rsplit(' ').next()?.parse::<u64>().ok())
+    };
+    let whole = stats::stats(100, 60);
+    let parts = [stats::stats(100, 23), stats::stats(123, 37)];
+    let sum: u64 = parts.iter().filter_map(|part| line(part, "accepted")).sum();
+    assert_eq!(line(&whole, "accepted"), Some(sum));
+}
