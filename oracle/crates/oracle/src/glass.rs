@@ -1,6 +1,4 @@
-//! `oracle glass`: answers of the published `level` and `gray`, one a line.
-
-use std::fmt::Write;
+//! Answers of the published `level` and `gray`, as rows.
 
 use chips::probe;
 
@@ -60,20 +58,18 @@ fn signed(number: u64) -> i64 {
     i64::try_from(number).expect("states and swings stay below 2^63")
 }
 
-pub fn glass(seed: u64, count: u64) -> String {
-    let mut rng = Rng::new(seed);
-    let mut text = String::new();
-    for _ in 0..count {
-        let swing = swing(&mut rng);
-        let _ = if rng.chance(33) {
-            let grey = grey(&mut rng);
-            let state = probe::level(grey, signed(swing));
-            writeln!(text, "level {grey} {swing} {state}")
-        } else {
-            let state = state(&mut rng, swing);
-            let grey = probe::gray(signed(state), signed(swing));
-            writeln!(text, "gray {state} {swing} {grey}")
-        };
-    }
-    text
+/// `level GREY SWING STATE`: arguments, then the answer.
+pub fn level_row(rng: &mut Rng) -> String {
+    let swing = swing(rng);
+    let grey = grey(rng);
+    let state = probe::level(grey, signed(swing));
+    format!("level {grey} {swing} {state}")
+}
+
+/// `gray STATE SWING GREY`: arguments, then the answer.
+pub fn gray_row(rng: &mut Rng) -> String {
+    let swing = swing(rng);
+    let state = state(rng, swing);
+    let grey = probe::gray(signed(state), signed(swing));
+    format!("gray {state} {swing} {grey}")
 }

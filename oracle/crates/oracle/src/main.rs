@@ -1,5 +1,6 @@
 //! `oracle`: runs captures through the published Rust of the controller, and makes captures.
 
+mod answers;
 mod capture;
 mod cases;
 mod generate;
@@ -7,6 +8,7 @@ mod glass;
 mod list;
 mod names;
 mod planes;
+mod refreshes;
 mod refusal;
 mod registers;
 mod rng;
@@ -27,7 +29,7 @@ use std::process::ExitCode;
 const USAGE: &str = "usage: oracle run | trace | list          (a capture on standard input)
        oracle make SEED
        oracle stats SEED N
-       oracle glass SEED N
+       oracle answers SEED LEVELS GREYS REFRESHES
        oracle cases DIR | check DIR
 ";
 
@@ -61,7 +63,12 @@ fn obey(words: &[&str]) -> io::Result<ExitCode> {
         ["list"] => say(list::list(&input()?))?,
         ["make", seed] => say(generate::make(number(seed)?))?,
         ["stats", seed, count] => say(stats::stats(number(seed)?, number(count)?))?,
-        ["glass", seed, count] => say(glass::glass(number(seed)?, number(count)?))?,
+        ["answers", seed, levels, greys, refreshes] => say(answers::answers(
+            number(seed)?,
+            number(levels)?,
+            number(greys)?,
+            number(refreshes)?,
+        ))?,
         ["cases", directory] => cases::write(Path::new(directory))?,
         ["check", directory] => {
             let (text, equal) = cases::check(Path::new(directory))?;

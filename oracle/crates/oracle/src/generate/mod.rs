@@ -6,7 +6,7 @@ mod hostile;
 mod panel;
 mod session;
 mod settings;
-mod tables;
+pub mod tables;
 mod window;
 
 use crate::capture::{Capture, MOST_EVENTS};

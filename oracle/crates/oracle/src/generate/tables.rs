@@ -122,27 +122,41 @@ fn load(bench: &mut Bench, command: u8, table: &[u8]) {
     bench.noise(more);
 }
 
+/// The bytes of one table, most often in the timing that all share.
+fn one(rng: &mut Rng, command: u8, shared: &Timing, frames: u64) -> Vec<u8> {
+    let own = if rng.chance(70) {
+        shared.clone()
+    } else {
+        timing(rng, frames)
+    };
+    let lean = rng.pick(&[1, 1, 2, 2, 3, 0]);
+    match command {
+        LUTC => vcom(rng, shared, frames),
+        _ if rng.chance(6) => unusual(rng, &own),
+        _ => table(&own, || selects(rng, lean)),
+    }
+}
+
+/// Five tables of 42 bytes, about `frames` frames to a full swing.
+pub fn five(rng: &mut Rng, frames: u64) -> [Vec<u8>; 5] {
+    let shared = timing(rng, frames);
+    [0, 1, 2, 3, 4].map(|number| {
+        let mut bytes = one(rng, LUTC + number, &shared, frames);
+        bytes.resize(TABLE_BYTES, 0);
+        bytes
+    })
+}
+
 /// Loads the five tables, or some of them.
 pub fn tables(bench: &mut Bench) {
     let frames = bench.frames;
     let shared = timing(&mut bench.rng, frames);
     let all = bench.rng.chance(70);
     for command in LUTC..=LUTKK {
-        let rng = &mut bench.rng;
-        if !all && rng.chance(50) {
+        if !all && bench.rng.chance(50) {
             continue;
         }
-        let own = if rng.chance(70) {
-            shared.clone()
-        } else {
-            timing(rng, frames)
-        };
-        let lean = rng.pick(&[1, 1, 2, 2, 3, 0]);
-        let bytes = match command {
-            LUTC => vcom(rng, &shared, frames),
-            _ if rng.chance(6) => unusual(rng, &own),
-            _ => table(&own, || selects(rng, lean)),
-        };
+        let bytes = one(&mut bench.rng, command, &shared, frames);
         load(bench, command, &bytes);
     }
 }
