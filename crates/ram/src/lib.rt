@@ -5,15 +5,21 @@ ghost use mathlib.Core.Path.{_≡_};
 ghost use Prim.Native.Nat.{_<_};
 ghost use lib.ListN.{getD, set};
 ghost use Rattle.ram.specs.Plane.{place as placeOf, bitAt};
+ghost use Rattle.ram.specs.Write.{putInside, written};
+ghost use Rattle.ram.specs.Bytewise.{wholeByte};
 
 mod byte;
 
 use byte::bit_of;
+use byte::with_bit;
 use config::RAM_SOURCES;
 use registers::Area;
 
 // Bytes of a row: 800 bits.
 const ROW_BYTES: usize = RAM_SOURCES as usize / 8;
+
+// The largest 16-bit number.
+const LAST: u16 = 0xFFFF;
 
 // Where the next pixel byte goes.
 pub struct Cursor {
@@ -49,4 +55,53 @@ pub fn bit(plane: &[u8], x: u16, y: u16) -> u8
 {
     let at = place(x as usize, y as usize);
     bit_of(byte_at(plane, at), x as usize % 8)
+}
+
+// One bit, if it lies inside the area.
+fn write_bit(plane: &mut [u8], area: Area, x: usize, y: u16, v: u8)
+    requires { ⌜ v < 2 ⌝ }
+    ensures { λ r. ⌜ now (plane .exit) ≡ putInside area (now (plane .entry)) x y v ⌝ }
+{
+    if x > LAST as usize {
+        return;
+    }
+    if !area.contains(x as u16, y) {
+        return;
+    }
+    let at = place(x, y as usize);
+    let b = with_bit(byte_at(plane, at), x % 8, v);
+    store(plane, at, b);
+}
+
+// The eight pixels of a byte from a place, bit by bit.
+fn write_bits(plane: &mut [u8], area: Area, x: u16, y: u16, byte: u8)
+    ensures { λ r. ⌜ now (plane .exit) ≡ written (now (plane .entry)) area x y byte ⌝ }
+{
+    for k in 0..8usize {
+        write_bit(plane, area, x as usize + k, y, bit_of(byte, k));
+    }
+}
+
+// Whether the eight pixels from a place are one byte of a plane and lie inside the area.
+fn whole_byte(area: Area, x: u16, y: u16) -> bool
+    ensures { λ r. ⌜ r ≡ wholeByte area x y ⌝ }
+{
+    if x % 8 != 0 {
+        return false;
+    }
+    if !area.contains(x, y) {
+        return false;
+    }
+    area.contains(x + 7, y)
+}
+
+// The eight pixels of a byte from a place, highest bit first, those inside the area.
+pub fn write(plane: &mut [u8], area: Area, x: u16, y: u16, byte: u8)
+    ensures { λ r. ⌜ now (plane .exit) ≡ written (now (plane .entry)) area x y byte ⌝ }
+{
+    if whole_byte(area, x, y) {
+        store(plane, place(x as usize, y as usize), byte);
+        return;
+    }
+    write_bits(plane, area, x, y, byte);
 }

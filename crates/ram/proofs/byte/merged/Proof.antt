@@ -5,7 +5,7 @@ use native.Mathlib.Omega.{arith}
 use Rattle.base.specs.Turns.{turns}
 use Rattle.base.proofs.Turns.{turns-more}
 use Rattle.ram.specs.Plane.{bitOf, withBit}
-use Rattle.ram.specs.Merge.{merge}
+use Rattle.ram.specs.Bytewise.{merge}
 use Rattle.ram.proofs.ByteLaws.{bit-small, merge-byte, merge-whole}
 use Rattle.ram.proofs.byte.merged.Statement.{statement}
 use Rattle.ram.proofs.byte.merged.Tie as tie
