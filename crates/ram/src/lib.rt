@@ -2,10 +2,10 @@
 // highest bit of a byte leftmost. A slice of any length is taken: past its end nothing is written
 // and 0 is read.
 ghost use mathlib.Core.Path.{_≡_};
-ghost use Prim.Native.Nat.{_<_};
+ghost use Prim.Native.Nat.{_+_, _<_, min};
 ghost use lib.ListN.{getD, set};
 ghost use Rattle.ram.specs.Plane.{place as placeOf, bitAt};
-ghost use Rattle.ram.specs.Write.{putInside, written};
+ghost use Rattle.ram.specs.Write.{putInside, written, nextOf};
 ghost use Rattle.ram.specs.Bytewise.{wholeByte};
 
 mod byte;
@@ -104,4 +104,22 @@ pub fn write(plane: &mut [u8], area: Area, x: u16, y: u16, byte: u8)
         return;
     }
     write_bits(plane, area, x, y, byte);
+}
+
+fn saturating_add(a: u16, b: u16) -> u16
+    ensures { λ r. ⌜ r ≡ min (a + b) 65535 ⌝ }
+{
+    if LAST - b < a { LAST } else { a + b }
+}
+
+// The place of the next pixel byte: along the row, then on the next one.
+pub fn next(area: Area, at: Cursor) -> Cursor
+    ensures { λ r. ⌜ r ≡ nextOf area at ⌝ }
+{
+    let x = saturating_add(at.x, 8);
+    if area.x1 < x {
+        let y = saturating_add(at.y, 1);
+        return Cursor { x: area.x0, y };
+    }
+    Cursor { x, y: at.y }
 }
