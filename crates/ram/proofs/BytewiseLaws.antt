@@ -3,7 +3,7 @@ use mathlib.Core.Path.{_≡_, refl, sym, ap, _∙_}
 use mathlib.Core.Bool.{true, _&&_}
 use mathlib.Core.List.{List}
 use Prim.Native.Nat.{ℕ, zero, suc, _+_, _*_, _/_, _%_, _<_, _≤_}
-use native.Mathlib.Nat.{zero-add}
+use native.Mathlib.Nat.{zero-add, add-assoc}
 use native.Mathlib.Omega.{arith}
 use native.Mathlib.Decide.{decLe}
 use lib.Dec.{eqb}
@@ -12,7 +12,7 @@ use lib.Seq.{getD-set-same, set-set, set-out, set-getD}
 use borrow.Author.Tests.{eqb-true}
 use Rattle.base.specs.Pick.{pick}
 use Rattle.base.specs.Turns.{turns}
-use Rattle.base.proofs.Turns.{turns-same}
+use Rattle.base.proofs.Turns.{turns-join, turns-same}
 use Rattle.registers.specs.declared.Area.{Area}
 use Rattle.registers.specs.Area.{inside}
 use Rattle.ram.specs.Plane.{bitOf, withBit, place, bitAt, putBit, Bytes}
@@ -65,3 +65,10 @@ bits-copied old new x y n h =
     turns-same n (λ i q. putBit q (x + i) y (bitAt new (x + i) y)) (λ i q. putBit q (x + i) y (bitOf (getD new (place x y) 0) (x % 8 + i))) old
     (λ i q l. rw (same-place x y i (omega arith), same-bit x i (omega arith)))
     ∙ bits-stored old x y n (getD new (place x y) 0) h
+
+-- bits copied in two runs are copied in one
+pub copied-join : (old new : List ℕ) (x y m n : ℕ) → copiedBits (copiedBits old new x y m) new (x + m) y n ≡ copiedBits old new x y (m + n)
+copied-join old new x y m n =
+    turns-same n (λ i q. putBit q (x + m + i) y (bitAt new (x + m + i) y)) (λ i q. putBit q (x + (m + i)) y (bitAt new (x + (m + i)) y)) (copiedBits old new x y m)
+    (λ i q l. rw (add-assoc x m i))
+    ∙ turns-join m n (λ i q. putBit q (x + i) y (bitAt new (x + i) y)) old

@@ -9,6 +9,10 @@ use Rattle.ram.specs.Plane.{bitAt, putBit}
 abbrev pub copiedBits : List ℕ → List ℕ → ℕ → ℕ → ℕ → List ℕ
 copiedBits old new x y n = turns n (λ i p. putBit p (x + i) y (bitAt new (x + i) y)) old
 
--- each row of the area in turn, and each column of it; none where the first lies past the last
+-- row y, from the first column of the area to the last; nothing where the first lies past the last
+abbrev pub copiedRow : List ℕ → List ℕ → Area → ℕ → List ℕ
+copiedRow old new a y = copiedBits old new (a .x0) y (a .x1 + 1 - a .x0)
+
+-- each row of the area, one after the other
 unfoldable pub copied : List ℕ → List ℕ → Area → List ℕ
-copied old new a = turns (a .y1 + 1 - a .y0) (λ j p. copiedBits p new (a .x0) (a .y0 + j) (a .x1 + 1 - a .x0)) old
+copied old new a = turns (a .y1 + 1 - a .y0) (λ j p. copiedRow p new a (a .y0 + j)) old

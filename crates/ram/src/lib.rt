@@ -2,15 +2,17 @@
 // highest bit of a byte leftmost. A slice of any length is taken: past its end nothing is written
 // and 0 is read.
 ghost use mathlib.Core.Path.{_≡_};
-ghost use Prim.Native.Nat.{_+_, _<_, min};
+ghost use Prim.Native.Nat.{_+_, _-_, _%_, _<_, _≤_, min};
 ghost use lib.ListN.{getD, set};
 ghost use Rattle.ram.specs.Plane.{place as placeOf, bitAt};
 ghost use Rattle.ram.specs.Write.{putInside, written, nextOf};
 ghost use Rattle.ram.specs.Bytewise.{wholeByte};
+ghost use Rattle.ram.specs.Copy.{copiedBits, copiedRow, copied};
 
 mod byte;
 
 use byte::bit_of;
+use byte::merged;
 use byte::with_bit;
 use config::RAM_SOURCES;
 use registers::Area;
@@ -122,4 +124,55 @@ pub fn next(area: Area, at: Cursor) -> Cursor
         return Cursor { x: area.x0, y };
     }
     Cursor { x, y: at.y }
+}
+
+fn least(a: usize, b: usize) -> usize
+    ensures { λ r. ⌜ r ≡ min a b ⌝ }
+{
+    if a < b { a } else { b }
+}
+
+// How many columns or rows there are from the first to the last.
+fn count(first: u16, last: u16) -> usize
+    ensures { λ r. ⌜ r ≡ last + 1 - first ⌝ }
+{
+    if last < first {
+        return 0;
+    }
+    (last - first) as usize + 1
+}
+
+// The n pixels from a place, which stand in one byte.
+fn copy_byte(old: &mut [u8], new: &[u8], x: usize, y: usize, n: usize)
+    requires { ⌜ (x < 65536) × (y < 65536) × (x % 8 + n ≤ 8) ⌝ }
+    ensures { λ r. ⌜ now (old .exit) ≡ copiedBits (now (old .entry)) (now (new .entry)) x y n ⌝ }
+{
+    let at = place(x, y);
+    let b = merged(byte_at(old, at), byte_at(new, at), x % 8, n);
+    store(old, at, b);
+}
+
+// The pixels of a row of the area, a byte at a time.
+fn copy_row(old: &mut [u8], new: &[u8], area: Area, y: usize)
+    requires { ⌜ y < 65536 ⌝ }
+    ensures { λ r. ⌜ now (old .exit) ≡ copiedRow (now (old .entry)) (now (new .entry)) area y ⌝ }
+{
+    let columns = count(area.x0, area.x1);
+    let mut done: usize = 0;
+    while done < columns {
+        let x = area.x0 as usize + done;
+        let n = least(8 - x % 8, columns - done);
+        copy_byte(old, new, x, y, n);
+        done += n;
+    }
+}
+
+// The pixels of the area, from new to old.
+pub fn copy_new_to_old(old: &mut [u8], new: &[u8], area: Area)
+    ensures { λ r. ⌜ now (old .exit) ≡ copied (now (old .entry)) (now (new .entry)) area ⌝ }
+{
+    let rows = count(area.y0, area.y1);
+    for j in 0..rows {
+        copy_row(old, new, area, area.y0 as usize + j);
+    }
 }
