@@ -1,3 +1,4 @@
 pub mod ByteLaws
 pub mod AreaLaws
 pub mod BytewiseLaws
+pub mod PlaneLaws
