@@ -1,6 +1,6 @@
 -- The bits of a byte: one that is put is read back and the others stay, by one test that antt computes at every byte, bit and value; and a byte is known by its bits.
 use mathlib.Core.Path.{_≡_, refl, sym, ap, _∙_}
-use mathlib.Core.Bool.{Bool, true, false, _&&_}
+use mathlib.Core.Bool.{Bool, _&&_}
 use Prim.Native.Nat.{ℕ, zero, suc, _+_, _-_, _*_, _/_, _%_, _^_, _<_, _≤_}
 use native.Mathlib.Nat.{zero-add, mod-lt, mod-le, mod-eq-of-lt, div-mul-le-self, le-trans, mul-le-mul-right}
 use native.Mathlib.Omega.{arith}

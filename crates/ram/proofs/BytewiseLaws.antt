@@ -1,8 +1,8 @@
 -- Bits that are put one after the other into one byte of a plane are that byte stored once.
-use mathlib.Core.Path.{_≡_, refl, sym, ap, _∙_}
+use mathlib.Core.Path.{_≡_, sym, ap, _∙_}
 use mathlib.Core.Bool.{true, _&&_}
 use mathlib.Core.List.{List}
-use Prim.Native.Nat.{ℕ, zero, suc, _+_, _*_, _/_, _%_, _<_, _≤_}
+use Prim.Native.Nat.{ℕ, zero, suc, _+_, _%_, _<_, _≤_}
 use native.Mathlib.Nat.{zero-add, add-assoc}
 use native.Mathlib.Omega.{arith}
 use native.Mathlib.Decide.{decLe}
@@ -10,7 +10,6 @@ use lib.Dec.{eqb}
 use lib.ListN.{length, getD, set}
 use lib.Seq.{getD-set-same, set-set, set-out, set-getD}
 use borrow.Author.Tests.{eqb-true}
-use Rattle.base.specs.Pick.{pick}
 use Rattle.base.specs.Turns.{turns}
 use Rattle.base.proofs.Turns.{turns-join, turns-same}
 use Rattle.registers.specs.declared.Area.{Area}
@@ -33,7 +32,7 @@ same-bit x i h = omega arith
 put-again : (p : List ℕ) (x y i c v : ℕ) → x % 8 + i < 8 → putBit (set p (place x y) c) (x + i) y v ≡ set p (place x y) (withBit c (x % 8 + i) v)
 unfolding putBit
 put-again p x y i c v h = rw (same-place x y i h, same-bit x i h) (elim (decLe (length p) (place x y)) [
-  | yes out ↦ rw (set-out p (place x y) c out, set-out p (place x y) _ out, set-out p (place x y) _ out)
+  | yes out ↦ rw (set-out p (place x y) c out) (set-out p (place x y) _ out ∙ sym (set-out p (place x y) _ out))
   | no in-list ↦ rw (getD-set-same p (place x y) c 0 (omega arith)) (set-set p (place x y) c _)
 ])
 

@@ -1,5 +1,5 @@
 -- `ram::copy_byte` meets its contract: bits copied within one byte are that byte stored once.
-use mathlib.Core.Path.{_≡_, sym, _∙_}
+use mathlib.Core.Path.{sym, _∙_}
 use native.Mathlib.Omega.{arith}
 use borrow.Author.Needs.{needs}
 use Rattle.ram.proofs.BytewiseLaws.{bits-copied}

@@ -1,6 +1,6 @@
 -- `ram::copy_new_to_old` meets its contract. The loop's invariant: the rows passed are copied; the measure is what is left of them.
 use mathlib.Core.Path.{_≡_, refl, _∙_}
-use Prim.Native.Nat.{ℕ, _+_, _-_, _≤_}
+use Prim.Native.Nat.{_+_, _-_, _≤_}
 use native.Mathlib.Omega.{arith}
 use borrow.Author.Needs.{needs}
 use lib.ListN.{length}
@@ -42,7 +42,7 @@ loop-again c =
     let w = c .before .before in
     let l = w .before .before .before .before .loop in
     let a = w .before .before .before .before .before .before .before .before .args in
-    (w .copy-row .ensures ∙ rw (l .inv .0) (turns-more (l .j) (λ i p. copiedRow p (a .new .now) (a .area) (a .area .y0 + i)) (a .old .now)), omega arith, w .copy-row .kept .0 ∙ l .inv .2)
+    (rw (w .copy-row .ensures, l .inv .0) (turns-more (l .j) (λ i p. copiedRow p (a .new .now) (a .area) (a .area .y0 + i)) (a .old .now)), omega arith, w .copy-row .kept .0 ∙ l .inv .2)
 
 same-length : tie.Need-same-length Inv-loop μ-loop
 same-length c = c .before .loop .inv .2

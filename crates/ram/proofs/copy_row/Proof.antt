@@ -1,6 +1,6 @@
 -- `ram::copy_row` meets its contract. The loop's invariant: the columns passed are copied; each turn passes at least one, and the measure is what is left of them.
-use mathlib.Core.Path.{_≡_, refl, ap, _∙_}
-use Prim.Native.Nat.{ℕ, _+_, _-_, _%_, _≤_, _<_}
+use mathlib.Core.Path.{_≡_, refl, _∙_}
+use Prim.Native.Nat.{_+_, _-_, _≤_}
 use native.Mathlib.Omega.{arith}
 use borrow.Author.Needs.{needs}
 use lib.ListN.{length}
@@ -50,7 +50,7 @@ loop-again c =
     let w = c .before .before in
     let l = w .before .before .before .before .before .loop in
     let a = w .before .before .before .before .before .before .before .before .before .args in
-    (w .copy-byte .ensures ∙ rw (l .inv .0) (copied-join (a .old .now) (a .new .now) (a .area .x0) (a .y) (l .done) (w .before .before .least .result)), omega arith, w .copy-byte .kept .0 ∙ l .inv .2)
+    (rw (w .copy-byte .ensures, l .inv .0) (copied-join (a .old .now) (a .new .now) (a .area .x0) (a .y) (l .done) (w .before .before .least .result)), omega arith, w .copy-byte .kept .0 ∙ l .inv .2)
 
 same-length : tie.Need-same-length Inv-loop μ-loop
 same-length c = c .before .loop .inv .2

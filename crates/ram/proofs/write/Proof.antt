@@ -1,5 +1,5 @@
 -- `ram::write` meets its contract: a whole byte inside the area is stored, and else the bits are put one by one.
-use mathlib.Core.Path.{_≡_, sym, _∙_}
+use mathlib.Core.Path.{sym, _∙_}
 use native.Mathlib.Omega.{arith}
 use borrow.Author.Needs.{needs}
 use Rattle.ram.proofs.BytewiseLaws.{whole-written}

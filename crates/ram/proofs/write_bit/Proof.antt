@@ -1,9 +1,7 @@
 -- `ram::write_bit` meets its contract: past the last 16-bit column nothing lies inside, and else the area is asked.
-use mathlib.Core.Path.{_≡_, sym, _∙_}
-use mathlib.Core.Bool.{false}
+use mathlib.Core.Path.{sym, _∙_}
 use native.Mathlib.Omega.{arith}
 use borrow.Author.Tests.{not-true, not-false}
-use Rattle.registers.specs.Area.{inside}
 use Rattle.ram.specs.Plane.{putBit}
 use Rattle.ram.specs.Write.{putInside}
 use Rattle.ram.proofs.AreaLaws.{inside-past}

@@ -1,7 +1,6 @@
 -- `ram::write_bits` meets its contract. The loop's invariant: the bits passed are put; the measure is what is left of the eight.
-use mathlib.Core.Path.{_≡_, refl, ap, _∙_}
-use mathlib.Core.List.{List}
-use Prim.Native.Nat.{ℕ, _+_, _-_, _≤_}
+use mathlib.Core.Path.{_≡_, refl, _∙_}
+use Prim.Native.Nat.{_+_, _-_, _≤_}
 use native.Mathlib.Omega.{arith}
 use lib.ListN.{length}
 use Rattle.base.specs.Turns.{turns}
@@ -43,7 +42,7 @@ loop-again c =
     let w = c .before .before in
     let l = w .before .before .before .before .loop in
     let a = w .before .before .before .before .before .before .args in
-    (w .write-bit .ensures ∙ rw (w .before .bit-of .ensures, l .inv .0) (turns-more (l .k) (λ i q. putInside (a .area) q (a .x + i) (a .y) (bitOf (a .byte) i)) (a .plane .now)), omega arith, w .write-bit .kept .0 ∙ l .inv .2)
+    (rw (w .write-bit .ensures, w .before .bit-of .ensures, l .inv .0) (turns-more (l .k) (λ i q. putInside (a .area) q (a .x + i) (a .y) (bitOf (a .byte) i)) (a .plane .now)), omega arith, w .write-bit .kept .0 ∙ l .inv .2)
 
 same-length : tie.Need-same-length Inv-loop μ-loop
 same-length c = c .before .loop .inv .2

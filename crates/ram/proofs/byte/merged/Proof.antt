@@ -1,12 +1,11 @@
 -- `ram::byte::merged` meets its contract. The loop's invariant: the bits passed are put; the measure is what is left of them. All eight bits are the byte itself.
-use mathlib.Core.Path.{_≡_, refl, sym, ap, _∙_}
-use Prim.Native.Nat.{ℕ, _+_, _-_, _<_, _≤_}
+use mathlib.Core.Path.{_≡_, refl, sym, _∙_}
+use Prim.Native.Nat.{_+_, _-_, _≤_}
 use native.Mathlib.Omega.{arith}
-use Rattle.base.specs.Turns.{turns}
 use Rattle.base.proofs.Turns.{turns-more}
 use Rattle.ram.specs.Plane.{bitOf, withBit}
 use Rattle.ram.specs.Bytewise.{merge}
-use Rattle.ram.proofs.ByteLaws.{bit-small, merge-byte, merge-whole}
+use Rattle.ram.proofs.ByteLaws.{bit-small, merge-whole}
 use Rattle.ram.proofs.byte.merged.Statement.{statement}
 use Rattle.ram.proofs.byte.merged.Tie as tie
 

@@ -1,6 +1,6 @@
 -- `ram::byte::with_bit` meets its contract: neither shift loses a bit, the old bit's weight lies within the byte, and the result is a byte.
 use mathlib.Core.Path.{_≡_, ap, _∙_}
-use Prim.Native.Nat.{ℕ, _+_, _-_, _*_, _%_, _^_, _<_, _≤_}
+use Prim.Native.Nat.{ℕ, _-_, _*_, _%_, _^_}
 use native.Mathlib.Omega.{arith}
 use borrow.Author.Needs.{needs}
 use Rattle.ram.specs.Plane.{bitOf, withBit}
