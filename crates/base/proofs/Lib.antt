@@ -3,3 +3,5 @@ pub mod Product
 pub mod InTurn
 pub mod Cases
 pub mod Lists
+pub mod Turns
+pub mod Below

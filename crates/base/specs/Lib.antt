@@ -2,3 +2,4 @@ pub mod Word
 pub mod Integer
 pub mod Pick
 pub mod InTurn
+pub mod Turns

@@ -1,0 +1,39 @@
+-- `ram::whole_byte` meets its contract, by its three tests. A column that is a multiple of 8 is 65,528 at most, so seven more fit 16 bits.
+use mathlib.Core.Path.{_≡_, sym, _∙_}
+use Prim.Native.Nat.{_+_}
+use borrow.Author.Tests.{eq-eqb, ne-eqb, not-true, not-false}
+use Rattle.registers.specs.Area.{inside}
+use Rattle.ram.specs.Bytewise.{wholeByte}
+use borrow.Author.Needs.{needs}
+use Rattle.ram.proofs.whole_byte.Statement.{statement}
+use Rattle.ram.proofs.whole_byte.Tie as tie
+
+returns : tie.Need-returns
+unfolding wholeByte
+returns c = simp (ne-eqb _ _ (c .if1 .taken))
+
+contains-requires : tie.Need-contains-requires
+contains-requires c κs = search needs
+
+returns-2 : tie.Need-returns-2
+unfolding wholeByte
+returns-2 c = simp (eq-eqb _ _ (c .before .before .if1 .left), sym (c .before .contains .ensures) ∙ not-true _ (c .if2 .taken))
+
+add-contains : tie.Need-add-contains
+add-contains c = search needs
+
+contains-requires-2 : tie.Need-contains-requires-2
+contains-requires-2 c κs = search needs
+
+returns-3 : tie.Need-returns-3
+unfolding wholeByte
+returns-3 c =
+    let i = c .before .before .before in
+    let a = i .before .args in
+    let last : c .contains2 .result ≡ inside (a .area) (a .x + 7) (a .y) = c .contains2 .ensures in
+    last ∙ simp (eq-eqb _ _ (i .if1 .left), sym (c .before .before .contains .ensures) ∙ not-false _ (c .before .if2 .left))
+
+pub whole-byte-spec : {M : Type 1} → statement M
+whole-byte-spec =
+    tie.close
+    (tie.spec returns contains-requires returns-2 add-contains contains-requires-2 returns-3)

@@ -1,0 +1,4 @@
+pub mod Plane
+pub mod Write
+pub mod Copy
+pub mod Bytewise
