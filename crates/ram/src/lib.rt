@@ -37,13 +37,13 @@ fn place(x: usize, y: usize) -> usize
     y * ROW_BYTES + x / 8
 }
 
-fn byte_at(plane: &[u8], at: usize) -> u8
+pub fn byte_at(plane: &[u8], at: usize) -> u8
     ensures { λ r. ⌜ r ≡ getD (now (plane .entry)) at 0 ⌝ }
 {
     if at < plane.len() { plane[at] } else { 0 }
 }
 
-fn store(plane: &mut [u8], at: usize, byte: u8)
+pub fn store(plane: &mut [u8], at: usize, byte: u8)
     ensures { λ r. ⌜ now (plane .exit) ≡ set (now (plane .entry)) at byte ⌝ }
 {
     if at < plane.len() {

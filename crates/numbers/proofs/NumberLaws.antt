@@ -1,0 +1,133 @@
+-- A pixel's number by rows is its number: inside both areas is a row inside both and a column inside both.
+use mathlib.Core.Path.{_≡_, refl, sym, ap, subst, _∙_}
+use mathlib.Core.Bool.{Bool, true, false, _&&_, _||_}
+use mathlib.Core.List.{List, [], _∷_}
+use Prim.Native.Nat.{ℕ, zero, suc, _+_, _*_, _/_, _%_, _≤_, _<_, min, max}
+use native.Mathlib.Numerals.{add-one}
+use native.Mathlib.Omega.{arith}
+use lib.Dec.{T, leb, eqb}
+use lib.ListN.{length, getD, drop, drop-of-length-le}
+use lib.Seq.{drop-cons}
+use borrow.Author.Tests.{le-leb, lt-leb, leb-true, leb-false, eqb-true}
+use Rattle.base.specs.Pick.{pick}
+use Rattle.base.proofs.Cases.{by-cases}
+use Rattle.registers.specs.Area.{inside}
+use Rattle.registers.specs.declared.Area.{Area}
+use Rattle.ram.specs.Plane.{place, bitOf, bitAt}
+use Rattle.numbers.specs.declared.Scan.{Scan}
+use Rattle.numbers.specs.declared.Row.{Row}
+use Rattle.numbers.specs.declared.Pixels.{Pixels}
+use Rattle.numbers.specs.Number.{shownAt, tableOf, numberOf, someUndriven}
+use Rattle.numbers.specs.Row.{noRow, rowAt, numberIn, numberOfBit, byteInside, wholeByte}
+
+-- ---- tests of a larger and of a smaller end
+leb-max : (a b c : ℕ) → leb (max a b) c ≡ leb a c && leb b c
+leb-max a b c = by-cases (leb a c)
+    (λ p. by-cases (leb b c)
+    (λ q. rw (p, q) (le-leb (max a b) c (omega (arith, leb-true a c p, leb-true b c q))))
+    (λ q. rw (p, q) (lt-leb (max a b) c (omega (arith, leb-false b c q)))))
+    (λ p. rw p (lt-leb (max a b) c (omega (arith, leb-false a c p))))
+
+leb-min : (a b c : ℕ) → leb c (min a b) ≡ leb c a && leb c b
+leb-min a b c = by-cases (leb c a)
+    (λ p. by-cases (leb c b)
+    (λ q. rw (p, q) (le-leb c (min a b) (omega (arith, leb-true c a p, leb-true c b q))))
+    (λ q. rw (p, q) (lt-leb c (min a b) (omega (arith, leb-false c b q)))))
+    (λ p. rw p (lt-leb c (min a b) (omega (arith, leb-false c a p))))
+
+-- ---- the tests of two areas, rows first
+never : (t : Bool) → t && false ≡ false
+never true = refl
+never false = refl
+
+-- columns of both, p and q the first area's, s and t the second's
+columns-both : (p q s t : Bool) → (p && s) && (q && t) ≡ (p && q) && (s && t)
+columns-both true true s t = refl
+columns-both true false true t = refl
+columns-both true false false t = refl
+columns-both false q s t = refl
+
+-- no column lies in an empty row
+none-in : (c : ℕ) → leb 1 c && leb c 0 ≡ false
+none-in zero = refl
+none-in (suc c) = rw (lt-leb (suc c) 0 (omega arith)) (never (leb 1 (suc c)))
+
+always : (t : Bool) → t && true ≡ t
+always true = refl
+always false = refl
+
+-- p q u v the first area's tests, columns then rows, and s t w z the second's
+both : (p q u v s t w z : Bool) → (p && q && u && v) && (s && t && w && z) ≡ ((p && s) && (q && t)) && (u && v && w && z)
+both false q u v s t w z = refl
+both true false u v true t w z = refl
+both true false u v false t w z = refl
+both true true false v s t w z = sym (never (s && t))
+both true true true false s t w z = sym (never (s && t))
+both true true true true true true w z = refl
+both true true true true true false w z = refl
+both true true true true false t w z = refl
+
+module _ (a b : Area) (c r : ℕ) where
+  areas : inside a c r && inside b c r ≡ ((leb (a .x0) c && leb (b .x0) c) && (leb c (a .x1) && leb c (b .x1))) && (leb (a .y0) r && leb r (a .y1) && leb (b .y0) r && leb r (b .y1))
+  unfolding inside
+  areas = both (leb (a .x0) c) (leb c (a .x1)) (leb (a .y0) r) (leb r (a .y1)) (leb (b .x0) c) (leb c (b .x1)) (leb (b .y0) r) (leb r (b .y1))
+
+  by-row : (n : ℕ → ℕ) → pick (leb (rowAt a b r .lo) c && leb c (rowAt a b r .hi)) (n (rowAt a b r .row)) 255 ≡ pick (inside a c r && inside b c r) (n r) 255
+  unfolding rowAt
+  by-row n = by-cases (leb (a .y0) r && leb r (a .y1) && leb (b .y0) r && leb r (b .y1))
+      (λ h. rw (areas, h, always, leb-max, leb-min))
+      (λ h. rw (areas, h, none-in, never))
+
+pub number-by-row : (p : Pixels) (old new : List ℕ) (y x : ℕ) →
+    numberIn (rowAt (p .active) (p .area) (shownAt (p .rows) (p .active .y0) (p .active .y1) y)) (p .white) old new (shownAt (p .columns) (p .active .x0) (p .active .x1) x)
+    ≡ numberOf p old new x y
+unfolding numberIn numberOf
+number-by-row p old new y x =
+    let c = shownAt (p .columns) (p .active .x0) (p .active .x1) x in
+    by-row (p .active) (p .area) c (shownAt (p .rows) (p .active .y0) (p .active .y1) y) (λ r. tableOf (eqb (bitAt old c r) (p .white)) (eqb (bitAt new c r) (p .white)))
+
+-- ---- looking for 255
+module _ (l : List ℕ) (i : ℕ) where
+  pub undriven-here : i < length l → getD l i 0 ≡ 255 → someUndriven (drop i l) ≡ true
+  undriven-here h e = rw (drop-cons l i 0 h, e)
+
+  pub undriven-later : i < length l → eqb (getD l i 0) 255 ≡ false → someUndriven (drop i l) ≡ someUndriven (drop (i + 1) l)
+  undriven-later h e = rw (drop-cons l i 0 h, e, add-one i)
+
+  pub undriven-none : length l ≤ i → someUndriven (drop i l) ≡ false
+  undriven-none h = rw (drop-of-length-le l h)
+
+-- ---- eight pixels that show a byte of each plane
+no-test : {X : Type 0} → _≡_ {A = Bool} false true → X
+no-test e = absurd (subst (λ (b : Bool). T b) (sym e) tt)
+
+in-order : (r s b : Bool) → pick r false (pick s b false) ≡ true → (r ≡ false) × (s ≡ true) × (b ≡ true)
+in-order true s b e = no-test e
+in-order false true b e = (refl, refl, e)
+in-order false false b e = no-test e
+
+all-four : (a b c d : Bool) → a && (b && (c && d)) ≡ true → (a ≡ true) × (b ≡ true) × (c ≡ true) × (d ≡ true)
+all-four true true true d e = (refl, refl, refl, e)
+all-four true true false d e = no-test e
+all-four true false c d e = no-test e
+all-four false b c d e = no-test e
+
+module _ (s : Scan) (q : Row) (x : ℕ) (h : wholeByte s q x ≡ true) where
+  pub whole-fits : x + 8 ≤ s .count
+  unfolding wholeByte byteInside
+  whole-fits =
+      let e = in-order (s .reversed) (s .straight) (byteInside (s .count) q x) h in
+      leb-true (x + 8) (s .count) (all-four (eqb (x % 8) 0) (leb (x + 8) (s .count)) (leb (q .lo) x) (leb (x + 7) (q .hi)) (e .2) .1)
+
+  pub whole-numbers : (white first last : ℕ) (old new : List ℕ) (k : ℕ) → k < 8 →
+      numberOfBit (getD old (q .row * 100 + x / 8) 0) (getD new (q .row * 100 + x / 8) 0) white k ≡ numberIn q white old new (shownAt s first last (x + k))
+  unfolding wholeByte byteInside shownAt numberIn bitAt
+  whole-numbers white first last old new k l =
+      let e = in-order (s .reversed) (s .straight) (byteInside (s .count) q x) h in
+      let f = all-four (eqb (x % 8) 0) (leb (x + 8) (s .count)) (leb (q .lo) x) (leb (x + 7) (q .hi)) (e .2) in
+      let z : x % 8 ≡ 0 = eqb-true (x % 8) 0 (f .0) in
+      let lo : q .lo ≤ x = leb-true (q .lo) x (f .2) in
+      let hi : x + 7 ≤ q .hi = leb-true (x + 7) (q .hi) (f .3) in
+      let at : place (x + k) (q .row) ≡ q .row * 100 + x / 8 = omega arith in
+      let bit : (x + k) % 8 ≡ k = omega arith in
+      rw (e .1, e .0, le-leb (q .lo) (x + k) (omega arith), le-leb (x + k) (q .hi) (omega arith), at, bit)

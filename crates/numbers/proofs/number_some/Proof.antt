@@ -1,0 +1,95 @@
+-- `numbers::number_some` meets its contract: eight numbers by a byte of each plane are those of the eight columns.
+use borrow.Author.Needs.{needs}
+use mathlib.Core.Path.{_≡_, refl, sym, ap, subst, _∙_}
+use mathlib.Core.List.{List}
+use Prim.Native.Nat.{ℕ, _+_, _-_, _*_, _≤_, _<_}
+use native.Mathlib.Omega.{arith}
+use lib.ListN.{length, getD, set}
+use Rattle.numbers.specs.Filled.{filled}
+use Rattle.numbers.specs.Number.{shownAt}
+use Rattle.numbers.specs.Row.{numberIn, numberOfBit}
+use Rattle.numbers.proofs.FilledLaws.{filled-below}
+use Rattle.numbers.proofs.NumberLaws.{whole-fits, whole-numbers}
+use Rattle.numbers.proofs.number_some.Statement.{statement}
+use Rattle.numbers.proofs.number_some.Tie as tie
+
+whole-byte-requires : tie.Need-whole-byte-requires
+whole-byte-requires c κs = search needs
+
+cast-place : tie.Need-cast-place
+cast-place c = search needs
+
+mul-place : tie.Need-mul-place
+mul-place c = search needs
+
+add-place : tie.Need-add-place
+add-place c = search needs
+
+add-eight : tie.Need-add-eight
+add-eight c = search needs
+
+byte-at-requires : tie.Need-byte-at-requires
+byte-at-requires c κs = search needs
+
+byte-at-requires-2 : tie.Need-byte-at-requires-2
+byte-at-requires-2 c κs = search needs
+
+eight-requires : tie.Need-eight-requires
+eight-requires c κs = search needs
+
+same-length : tie.Need-same-length
+same-length c = search needs
+
+returns : tie.Need-returns
+returns c =
+    let s = c .before .before .before .before .before .before .before .before .before .before .before .before .args in
+    let whole = sym (c .before .before .before .before .before .before .before .before .whole-byte .ensures) ∙ c .before .before .before .before .before .before .before .if1 .taken in (
+      record { least = omega arith; most = whole-fits (s .columns) (s .row) (s .x) whole },
+      c .before .before .eight .ensures
+          ∙ (λ i. filled (numberOfBit (c .before .before .before .before .byte-at .ensures i) (c .before .before .before .byte-at2 .ensures i) (s .white)) (s .at + s .x) 8 (s .numbers .now))
+          ∙ filled-below _ _ (s .at + s .x) 8 (s .numbers .now) (whole-numbers (s .columns) (s .row) (s .x) whole (s .white) (s .active .x0) (s .active .x1) (s .old .now) (s .new .now)),
+    )
+
+shown-requires : tie.Need-shown-requires
+shown-requires c κs = search needs
+
+number-in-requires : tie.Need-number-in-requires
+number-in-requires c κs = search needs
+
+add-store : tie.Need-add-store
+add-store c = search needs
+
+store-requires : tie.Need-store-requires
+store-requires c κs = search needs
+
+same-length-2 : tie.Need-same-length-2
+same-length-2 c = search needs
+
+returns-2 : tie.Need-returns-2
+returns-2 c =
+    let s = c .before .before .before .before .before .before .before .before .before .before .before .args in
+    let here : s .x ≡ s .x + 0 = omega arith in
+    let place : s .at + s .x ≡ s .at + s .x + 0 = omega arith in
+    let n = c .before .before .before .before .number-in .ensures ∙ ap (numberIn (s .row) (s .white) (s .old .now) (s .new .now)) (c .before .before .before .before .before .shown .ensures ∙ ap (shownAt (s .columns) (s .active .x0) (s .active .x1)) here) in
+    (record { least = omega arith; most = omega arith }, c .before .before .store .ensures ∙ (λ i. set (s .numbers .now) (place i) (n i)))
+
+pub number-some-spec : {M : Type 1} → statement M
+number-some-spec =
+    tie.close
+    (tie.spec
+    whole-byte-requires
+    cast-place
+    mul-place
+    add-place
+    add-eight
+    byte-at-requires
+    byte-at-requires-2
+    eight-requires
+    same-length
+    returns
+    shown-requires
+    number-in-requires
+    add-store
+    store-requires
+    same-length-2
+    returns-2)

@@ -1,0 +1,103 @@
+-- `numbers::numbers` meets its contract. After y turns the first y rows are written.
+use borrow.Author.Needs.{needs}
+use mathlib.Core.Path.{_≡_, refl, sym, ap, subst, _∙_}
+use mathlib.Core.List.{List}
+use Prim.Native.Nat.{ℕ, _+_, _-_, _*_, _≤_, _<_, _^_}
+use native.Mathlib.Omega.{arith}
+use native.Mathlib.Nat.{mul-le-mul}
+use lib.ListN.{length}
+use Rattle.numbers.specs.declared.Row.{Row}
+use Rattle.numbers.specs.Filled.{filled, rowsFilled}
+use Rattle.numbers.specs.Number.{shownAt, numberOf}
+use Rattle.numbers.specs.Row.{rowAt, numberIn}
+use Rattle.numbers.proofs.FilledLaws.{rows-more, filled-same, length-rows}
+use Rattle.numbers.proofs.NumberLaws.{number-by-row}
+use Rattle.numbers.proofs.numbers.Statement.{statement}
+use Rattle.numbers.proofs.numbers.Tie as tie
+
+-- a row and a width of 16 bits each
+small : (y w : ℕ) → y < 65_536 → w < 65_536 → y * w < 2 ^ 32
+small y w h k = omega (arith, mul-le-mul {n₁ = y} {m₁ = w} {n₂ = 65_535} {m₂ = 65_535} (omega arith) (omega arith))
+
+abbrev Inv-loop : tie.InvT-loop
+Inv-loop numbers₀ old new p columns rows active area width height y₀ numbers y = (numbers ≡ rowsFilled (numberOf p old new) (p .columns .count) y numbers₀) × (y ≤ height)
+
+abbrev μ-loop : tie.MeasureT-loop
+μ-loop numbers₀ old new p columns rows active area width height y₀ numbers y = height - y
+
+cast-width : tie.Need-cast-width Inv-loop μ-loop
+cast-width c = search needs
+
+cast-height : tie.Need-cast-height Inv-loop μ-loop
+cast-height c = search needs
+
+loop-holds : tie.Need-loop-holds Inv-loop μ-loop
+loop-holds c = (refl, omega arith)
+
+cast-shown : tie.Need-cast-shown Inv-loop μ-loop
+cast-shown c = search needs
+
+shown-requires : tie.Need-shown-requires Inv-loop μ-loop
+shown-requires c κs = search needs
+
+row-at-requires : tie.Need-row-at-requires Inv-loop μ-loop
+row-at-requires c κs = search needs
+
+mul-number-row : tie.Need-mul-number-row Inv-loop μ-loop
+mul-number-row c = record { fits = omega (arith, small (c .before .before .before .before .loop .y) (c .before .before .before .before .before .before .before .before .before .before .before .before .before .before .args .p .columns .count) (search needs) (search needs)) }
+
+number-row-requires : tie.Need-number-row-requires Inv-loop μ-loop
+number-row-requires c κs = small (c .before .before .before .before .loop .y) (c .before .before .before .before .before .before .before .before .before .before .before .before .before .before .args .p .columns .count) (search needs) (search needs)
+
+add-y : tie.Need-add-y Inv-loop μ-loop
+add-y c = search needs
+
+loop-less : tie.Need-loop-less Inv-loop μ-loop
+loop-less c = search needs
+
+loop-again : tie.Need-loop-again Inv-loop μ-loop
+loop-again c =
+    let l = c .before .before .before .before .before .before .before .loop in
+    let s = c .before .before .before .before .before .before .before .before .before .before .before .before .before .before .before .before .before .args in
+    let w = s .p .columns .count in
+    let row : c .before .before .before .before .row-at .result ≡ rowAt (s .p .active) (s .p .area) (shownAt (s .p .rows) (s .p .active .y0) (s .p .active .y1) (l .y)) =
+    c .before .before .before .before .row-at .ensures ∙ ap (rowAt (s .p .active) (s .p .area)) (c .before .before .before .before .before .shown .ensures) in (
+      c .before .before .number-row .ensures
+          ∙ ap (λ (q : Row). filled (λ x. numberIn q (s .p .white) (s .old .now) (s .new .now) (shownAt (s .p .columns) (s .p .active .x0) (s .p .active .x1) x)) (l .y * w) w (l .numbers)) row
+          ∙ filled-same _ _ (l .y * w) w (l .numbers) (number-by-row (s .p) (s .old .now) (s .new .now) (l .y))
+          ∙ ap (filled (λ x. numberOf (s .p) (s .old .now) (s .new .now) x (l .y)) (l .y * w) w) (l .inv .0)
+          ∙ rows-more (numberOf (s .p) (s .old .now) (s .new .now)) w (l .y) (s .numbers .now),
+      omega arith,
+    )
+
+same-length : tie.Need-same-length Inv-loop μ-loop
+same-length c =
+    let l = c .before .loop in
+    let s = c .before .before .before .before .before .before .before .before .before .before .before .args in
+    ap length (l .inv .0) ∙ length-rows (numberOf (s .p) (s .old .now) (s .new .now)) (s .p .columns .count) (l .y) (s .numbers .now)
+
+returns : tie.Need-returns Inv-loop μ-loop
+returns c =
+    let l = c .before .loop in
+    let s = c .before .before .before .before .before .before .before .before .before .before .before .args in
+    l .inv .0 ∙ ap (λ (n : ℕ). rowsFilled (numberOf (s .p) (s .old .now) (s .new .now)) (s .p .columns .count) n (s .numbers .now)) {x = l .y} {y = s .p .rows .count} (omega arith)
+
+pub numbers-spec : {M : Type 1} → statement M
+numbers-spec =
+    tie.close
+    (tie.spec
+    Inv-loop
+    μ-loop
+    cast-width
+    cast-height
+    loop-holds
+    cast-shown
+    shown-requires
+    row-at-requires
+    mul-number-row
+    number-row-requires
+    add-y
+    loop-less
+    loop-again
+    same-length
+    returns)

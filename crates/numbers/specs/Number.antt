@@ -1,0 +1,39 @@
+-- Document 01, "A refresh": the number of a pixel, the table that drives it.
+use mathlib.Core.Bool.{Bool, false, _&&_, _||_}
+use mathlib.Core.List.{List, [], _∷_}
+use Prim.Native.Nat.{ℕ, _+_, _-_}
+use lib.Dec.{eqb, leb}
+use Rattle.base.specs.Pick.{pick}
+use Rattle.registers.specs.Area.{inside}
+use Rattle.registers.specs.declared.Area.{Area}
+use Rattle.ram.specs.Plane.{bitAt}
+use Rattle.numbers.specs.declared.Scan.{Scan}
+use Rattle.numbers.specs.declared.Pixels.{Pixels}
+
+-- the panel flags reverse a column or row within the panel
+abbrev pub reversedOf : Scan → ℕ → ℕ
+reversedOf s v = pick (s .reversed) (s .count - 1 - v) v
+
+-- no area has this column or row
+abbrev pub nowhere : ℕ
+nowhere = 65_536
+
+-- the bit of the first 00 byte, if clear, then mirrors it: first + last of the start and resolution area, less it; below 0 is nowhere
+unfoldable pub shownAt : Scan → ℕ → ℕ → ℕ → ℕ
+shownAt s first last v = pick (s .straight) (reversedOf s v) (pick (leb (reversedOf s v) (first + last)) (first + last - reversedOf s v) nowhere)
+
+-- WW 1, KW 2, WK 3, KK 4, by whether the old and the new bit are white
+unfoldable pub tableOf : Bool → Bool → ℕ
+tableOf old new = pick old (pick new 1 3) (pick new 2 4)
+
+-- the number of the pixel in column x and row y of the panel: outside that area or the written one 255
+unfoldable pub numberOf : Pixels → List ℕ → List ℕ → ℕ → ℕ → ℕ
+numberOf p old new x y =
+    let c = shownAt (p .columns) (p .active .x0) (p .active .x1) x in
+    let r = shownAt (p .rows) (p .active .y0) (p .active .y1) y in
+    pick (inside (p .active) c r && inside (p .area) c r) (tableOf (eqb (bitAt old c r) (p .white)) (eqb (bitAt new c r) (p .white))) 255
+
+-- the picture is partial if any number is 255
+abbrev pub someUndriven : List ℕ → Bool
+someUndriven [] = false
+someUndriven (n ∷ ns) = eqb n 255 || someUndriven ns
