@@ -3,3 +3,4 @@ pub mod Product
 pub mod InTurn
 pub mod Cases
 pub mod Lists
+pub mod Sorting

@@ -1,4 +1,10 @@
 // The registers of the controller (mod.rs).
+pub mod command;
+mod sorting;
+
+pub use command::Kind;
+pub use command::Params;
+pub use sorting::kind;
 ghost use mathlib.Core.Path.{_≡_};
 ghost use Rattle.registers.specs.Area.{inside};
 
