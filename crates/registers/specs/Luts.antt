@@ -8,7 +8,7 @@ use Rattle.registers.specs.declared.luts.Lut.{Lut}
 use Rattle.registers.specs.declared.luts.Luts.{Luts}
 
 -- a reset leaves zeros
-abbrev pub resetLuts : Luts
+unfoldable pub resetLuts : Luts
 resetLuts = record { luts = replicate 5 (record { bytes = replicate 42 0 }) }
 
 -- a table's bytes

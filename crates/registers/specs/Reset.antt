@@ -12,7 +12,7 @@ resetCdi Uc8253 = 0x31 ∷ 0x07 ∷ []
 resetCdi Uc8279d = 0xD7 ∷ 0x00 ∷ []
 
 -- 00, 01, 30 and 50 by their bytes; the whole RAM for 61, 65 and 90; no window
-abbrev pub resetOf : Variant → Registers
+unfoldable pub resetOf : Variant → Registers
 resetOf variant = record {
   psr = 0x0F ∷ 0x8D ∷ [];
   power = 0x07 ∷ 0x17 ∷ 0x3A ∷ 0x3A ∷ 0x03 ∷ [];

@@ -1,8 +1,7 @@
 -- `registers::luts::Lut::with_byte` meets its contract: a byte number below 42, or one past them.
-use Rattle.registers.specs.Luts.{keptByte}
-use mathlib.Core.Path.{_≡_, refl, sym, _∙_, ap}
-use borrow.Author.Tests.{lt-ltb, le-ltb, le-leb, lt-leb, eq-eqb, ne-eqb}
 use borrow.Author.Needs.{needs}
+use borrow.Author.Tests.{lt-ltb, le-ltb}
+use Rattle.registers.specs.Luts.{keptByte}
 use Rattle.registers.proofs.luts.Lut.with_byte.Statement.{statement}
 use Rattle.registers.proofs.luts.Lut.with_byte.Tie as tie
 

@@ -1,11 +1,9 @@
 -- `registers::luts::Luts::bytes` meets its contract: five tables, each by its bytes.
 use mathlib.Core.Path.{_≡_}
-use mathlib.Core.List.{[]}
 use lib.ListN.{length}
-use Rattle.base.proofs.Lists.{length-mapped, map-listed}
-use Rattle.registers.specs.declared.luts.Lut.{Lut}
-use Rattle.registers.specs.Luts.{lutBytes, noLut}
 use borrow.Author.Needs.{needs}
+use Rattle.base.proofs.Lists.{length-mapped, map-listed}
+use Rattle.registers.specs.Luts.{lutBytes, noLut}
 use Rattle.registers.proofs.luts.Luts.bytes.Statement.{statement}
 use Rattle.registers.proofs.luts.Luts.bytes.Tie as tie
 

@@ -1,9 +1,9 @@
 -- `registers::luts::Luts::with_byte` meets its contract: one of 20 to 24, a smaller or a larger byte.
 use Prim.Native.Nat.{_≤_, _<_}
 use native.Mathlib.Omega.{arith}
+use borrow.Author.Needs.{needs}
 use borrow.Author.Tests.{le-leb, lt-leb}
 use Rattle.registers.specs.Luts.{lutByteOf}
-use borrow.Author.Needs.{needs}
 use Rattle.registers.proofs.luts.Luts.with_byte.Statement.{statement}
 use Rattle.registers.proofs.luts.Luts.with_byte.Tie as tie
 
