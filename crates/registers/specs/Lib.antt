@@ -1,5 +1,4 @@
 pub mod Area
-pub mod Command
 pub mod Reset
 pub mod Luts
 pub mod Bytes

@@ -1,7 +1,7 @@
 // The areas that the registers give, held to the RAM: document 01, "A data byte".
 ghost use mathlib.Core.Path.{_≡_};
-ghost use Prim.Native.Nat.{_+_, _-_, min, max};
-ghost use Rattle.registers.specs.Written.{activeOf, writtenOf};
+ghost use Prim.Native.Nat.{min};
+ghost use Rattle.registers.specs.Written.{lastOf, activeOf, writtenOf};
 use crate::Area;
 use crate::LAST_COLUMN;
 use crate::LAST_ROW;
@@ -17,7 +17,7 @@ pub(crate) fn held(value: u16, most: u16) -> u16
 
 // The last of `size` places from `start`, held to `most`; a size of 0 counts as 1.
 fn last(start: u16, size: u16, most: u16) -> u16
-    ensures { λ r. ⌜ r ≡ min (start + max size 1 - 1) most ⌝ }
+    ensures { λ r. ⌜ r ≡ min (lastOf start size) most ⌝ }
 {
     least(start as u64 + greatest(size as u64, 1) - 1, most as u64) as u16
 }

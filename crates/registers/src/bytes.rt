@@ -7,7 +7,13 @@ use crate::LAST_ROW;
 use crate::Pair;
 use crate::Registers;
 use crate::areas::held;
-use crate::command::*;
+use command::CDI;
+use command::GSST;
+use command::PLL;
+use command::PSR;
+use command::PTL;
+use command::PWR;
+use command::TRES;
 
 // Bits 9:8 of `value` by the low two of `byte`.
 fn high(value: u16, byte: u8) -> u16

@@ -1,16 +1,12 @@
 // The registers of the controller (mod.rs): their reset values, the areas and flags that they give,
-// and below, a file each, the command bytes, the register bytes and the LUTs.
+// and below, a file each, the register bytes and the LUTs.
 mod areas;
 mod bytes;
-pub mod command;
 mod flags;
 mod luts;
-mod sorting;
 
 pub use bytes::ten_bits_pair;
 pub use bytes::window_byte;
-pub use command::Kind;
-pub use command::Params;
 pub use flags::psr_kw;
 pub use flags::psr_reg;
 pub use flags::psr_rst_n;
@@ -19,10 +15,6 @@ pub use flags::psr_shl;
 pub use flags::psr_ud;
 pub use luts::Lut;
 pub use luts::Luts;
-pub use sorting::is_read_command;
-pub use sorting::kind;
-pub use sorting::least_count;
-pub use sorting::takes;
 ghost use mathlib.Core.Path.{_≡_};
 ghost use Rattle.registers.specs.Area.{inside};
 ghost use Rattle.registers.specs.Reset.{resetCdi, resetOf};

@@ -2,8 +2,8 @@
 ghost use mathlib.Core.Path.{_≡_};
 ghost use mathlib.Core.List.{map};
 ghost use Rattle.registers.specs.Luts.{resetLuts, lutBytes, keptByte, lutByteOf};
-use crate::command::LUTC;
-use crate::command::LUTKK;
+use command::LUTC;
+use command::LUTKK;
 use config::LUT_BYTES;
 
 // The bytes of one LUT that the model reads.

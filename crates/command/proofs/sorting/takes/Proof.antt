@@ -1,7 +1,7 @@
--- `registers::sorting::takes` meets its contract: the count of each form of parameters.
+-- `command::sorting::takes` meets its contract: the count of each form of parameters.
 use borrow.Author.Needs.{needs}
-use Rattle.registers.proofs.sorting.takes.Statement.{statement}
-use Rattle.registers.proofs.sorting.takes.Tie as tie
+use Rattle.command.proofs.sorting.takes.Statement.{statement}
+use Rattle.command.proofs.sorting.takes.Tie as tie
 
 params-requires : tie.Need-params-requires
 params-requires c κs = search needs

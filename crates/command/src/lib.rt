@@ -1,4 +1,14 @@
-// The command bytes (DS79's table), and the kinds of commands.
+// The command bytes (DS79's table), and below, what the model does with each: document 01, "A command
+// byte".
+mod kinds;
+mod sorting;
+
+pub use kinds::Kind;
+pub use kinds::Params;
+pub use sorting::is_read_command;
+pub use sorting::kind;
+pub use sorting::least_count;
+pub use sorting::takes;
 
 pub const PSR: u8 = 0x00;
 
@@ -97,21 +107,3 @@ pub const LVSEL: u8 = 0xE4;
 pub const TSSET: u8 = 0xE5;
 
 pub const TSBDRY: u8 = 0xE7;
-
-// How many parameter bytes a command takes.
-pub enum Params {
-    Exactly(u16),
-    Between(u16, u16),
-    // Pixel bytes, as many as written.
-    Stream,
-}
-
-// What the model does with a command byte.
-pub enum Kind {
-    Write(Params),
-    // A command whose data bytes are read.
-    Read,
-    // The name of what is not modelled follows from the command.
-    Unsupported(Params),
-    Unknown,
-}

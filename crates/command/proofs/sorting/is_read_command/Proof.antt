@@ -1,7 +1,7 @@
--- `registers::sorting::is_read_command` meets its contract: the four kinds of the sorted byte.
+-- `command::sorting::is_read_command` meets its contract: the four kinds of the sorted byte.
 use borrow.Author.Needs.{needs}
-use Rattle.registers.proofs.sorting.is_read_command.Statement.{statement}
-use Rattle.registers.proofs.sorting.is_read_command.Tie as tie
+use Rattle.command.proofs.sorting.is_read_command.Statement.{statement}
+use Rattle.command.proofs.sorting.is_read_command.Tie as tie
 
 kind-requires : tie.Need-kind-requires
 kind-requires c κs = search needs

@@ -1,4 +1,4 @@
--- `registers::sorting::kind` meets its contract: in an arm the definition is computed at each of its numbers, in a range at each that no arm took before.
+-- `command::sorting::kind` meets its contract: in an arm the definition is computed at each of its numbers, in a range at each that no arm took before.
 use mathlib.Core.Path.{_≡_, refl}
 use mathlib.Core.Bool.{Bool, true, false}
 use mathlib.Core.List.{List, [], _∷_}
@@ -9,11 +9,11 @@ use types.Run.{OneOf}
 use borrow.Author.Needs.{needs}
 use Rattle.base.proofs.Sorting.{Each, EachBut, Rest, eachBut, keysOf, at-key, in-range, test-in-range, no-key}
 use Rattle.config.specs.declared.Variant.{Variant}
-use Rattle.registers.specs.declared.command.Kind.{Kind}
-use Rattle.registers.specs.declared.command.Kind.the-variants.{Write, Read, Unsupported, Unknown}
-use Rattle.registers.specs.Command.{kindOf}
-use Rattle.registers.proofs.sorting.kind.Statement.{statement}
-use Rattle.registers.proofs.sorting.kind.Tie as tie
+use Rattle.command.specs.declared.kinds.Kind.{Kind}
+use Rattle.command.specs.declared.kinds.Kind.the-variants.{Write, Read, Unsupported, Unknown}
+use Rattle.command.specs.Kinds.{kindOf}
+use Rattle.command.proofs.sorting.kind.Statement.{statement}
+use Rattle.command.proofs.sorting.kind.Tie as tie
 
 -- the single numbers that are tested before the ranges, the last arm first
 abbrev arms : List (List ℕ)

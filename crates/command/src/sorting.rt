@@ -1,11 +1,11 @@
-// The sorting of a command byte: document 01, "A command byte".
+// The sorting of a command byte over its whole range, and how many data bytes a command takes.
 ghost use mathlib.Core.Path.{_≡_};
-ghost use Rattle.registers.specs.Command.{kindOf, isRead, paramsOf, leastCount, takesByte};
-use crate::command::*;
+ghost use Rattle.command.specs.Kinds.{kindOf, isRead, paramsOf, leastCount, takesByte};
+use crate::*;
 use config::LUT_MAX_BYTES;
 use config::Variant;
 
-// The command byte sorted over its whole range.
+// What the model does with a command byte.
 pub fn kind(command: u8, variant: Variant) -> Kind
     ensures { λ r. ⌜ r ≡ kindOf command variant ⌝ }
 {

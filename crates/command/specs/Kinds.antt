@@ -6,10 +6,10 @@ use lib.Dec.{ltb}
 use Rattle.base.specs.Pick.{pick, oneOf, between}
 use Rattle.config.specs.declared.Variant.{Variant}
 use Rattle.config.specs.declared.Variant.the-variants.{Uc8253, Uc8279d}
-use Rattle.registers.specs.declared.command.Params.{Params}
-use Rattle.registers.specs.declared.command.Params.the-variants.{Exactly, Between, Stream}
-use Rattle.registers.specs.declared.command.Kind.{Kind}
-use Rattle.registers.specs.declared.command.Kind.the-variants.{Write, Read, Unsupported, Unknown}
+use Rattle.command.specs.declared.kinds.Params.{Params}
+use Rattle.command.specs.declared.kinds.Params.the-variants.{Exactly, Between, Stream}
+use Rattle.command.specs.declared.kinds.Kind.{Kind}
+use Rattle.command.specs.declared.kinds.Kind.the-variants.{Write, Read, Unsupported, Unknown}
 
 -- 50 takes 1 or 2 bytes on UC8253 and exactly 1 on UC8279d
 abbrev pub cdiKind : Variant → Kind
