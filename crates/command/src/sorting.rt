@@ -63,9 +63,9 @@ fn params(k: Kind) -> Params
     ensures { λ r. ⌜ r ≡ paramsOf k ⌝ }
 {
     match k {
-        Kind::Write(params) => params,
+        Kind::Write(p) => p,
         Kind::Read => Params::Exactly(0),
-        Kind::Unsupported(params) => params,
+        Kind::Unsupported(p) => p,
         Kind::Unknown => Params::Exactly(0),
     }
 }

@@ -52,13 +52,13 @@ impl Area {
     }
 }
 
-// A column's number and a row's.
+// Horizontal and vertical.
 pub struct Pair {
     pub h: u16,
     pub v: u16,
 }
 
-// The registers but for the LUTs, which stand beside them: a copy of these is cheap.
+// The registers but for the LUTs, which stand beside them: these are copied often.
 pub struct Registers {
     pub psr: [u8; 2],
     pub power: [u8; 5],

@@ -6,13 +6,16 @@ use command::LUTC;
 use command::LUTKK;
 use config::LUT_BYTES;
 
+// One for VCOM, four for the pixels.
+const TABLES: usize = 5;
+
 // The bytes of one LUT that the model reads.
 pub struct Lut {
     pub bytes: [u8; LUT_BYTES],
 }
 
 pub struct Luts {
-    pub luts: [Lut; 5],
+    pub luts: [Lut; TABLES],
 }
 
 impl Lut {
@@ -43,12 +46,12 @@ impl Luts {
         let lut = Lut {
             bytes: [0; LUT_BYTES],
         };
-        let luts = [lut; 5];
+        let luts = [lut; TABLES];
         Luts { luts }
     }
 
     // The bytes alone.
-    pub fn bytes(self) -> [[u8; LUT_BYTES]; 5]
+    pub fn bytes(self) -> [[u8; LUT_BYTES]; TABLES]
         ensures { λ r. ⌜ r ≡ map lutBytes (self .luts) ⌝ }
     {
         [
