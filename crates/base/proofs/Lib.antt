@@ -5,3 +5,4 @@ pub mod Cases
 pub mod Lists
 pub mod Turns
 pub mod Below
+pub mod Sorting
