@@ -3,12 +3,28 @@ use mathlib.Core.Bool.{Bool, false, _&&_, _||_}
 use mathlib.Core.List.{List, [], _∷_}
 use Prim.Native.Nat.{ℕ, _+_, _-_}
 use lib.Dec.{eqb, leb}
+use lib.ListN.{getD}
 use Rattle.base.specs.Pick.{pick}
 use Rattle.registers.specs.Area.{inside}
 use Rattle.registers.specs.declared.Area.{Area}
+use Rattle.registers.specs.declared.Registers.{Registers}
+use Rattle.registers.specs.Flags.{bitSet, oneIsWhite}
+use Rattle.registers.specs.Written.{activeOf, writtenOf}
+use Rattle.config.specs.declared.Uc8253Geometry.{Uc8253Geometry}
+use Rattle.config.specs.declared.Variant.{Variant}
 use Rattle.ram.specs.Plane.{bitAt}
 use Rattle.numbers.specs.declared.Scan.{Scan}
 use Rattle.numbers.specs.declared.Pixels.{Pixels}
+
+-- what the numbers go by: the panel's flags and size, bits 2 and 3 of the first 00 byte, the areas, and the value of white
+unfoldable pub pixelsOf : Uc8253Geometry → Registers → Variant → Pixels
+pixelsOf g r v = record {
+  columns = record { reversed = g .«columns_reversed»; count = g .sources; straight = bitSet (getD (r .psr) 0 0) 2 };
+  rows = record { reversed = g .«rows_reversed»; count = g .gates; straight = bitSet (getD (r .psr) 0 0) 3 };
+  active = activeOf r;
+  area = writtenOf r;
+  white = pick (oneIsWhite v r) 1 0;
+}
 
 -- the panel flags reverse a column or row within the panel
 abbrev pub reversedOf : Scan → ℕ → ℕ

@@ -2,13 +2,19 @@
 // `ram_pixel` and `luts_of_pixels`).
 ghost use mathlib.Core.Path.{_≡_};
 ghost use Prim.Native.Nat.{_<_, _+_, _-_, _^_, min, max};
+ghost use Rattle.base.specs.Pick.{pick};
 ghost use Rattle.numbers.specs.Filled.{filled, rowsFilled};
 ghost use Rattle.numbers.specs.Row.{noRow, rowAt, numberIn, numberOfBit, byteInside, wholeByte, Some};
-ghost use Rattle.numbers.specs.Number.{reversedOf, shownAt, tableOf, numberOf, someUndriven};
+ghost use Rattle.numbers.specs.Number.{pixelsOf, reversedOf, shownAt, tableOf, numberOf, someUndriven};
+use config::Uc8253Geometry;
+use config::Variant;
 use ram::bit;
 use ram::byte_at;
 use ram::store;
 use registers::Area;
+use registers::Registers;
+use registers::psr_shl;
+use registers::psr_ud;
 
 // A pixel that no table drives.
 pub const UNDRIVEN: u8 = 255;
@@ -36,6 +42,42 @@ pub struct Pixels {
     pub area: Area,
     // The bit that is white.
     pub white: u8,
+}
+
+impl Pixels {
+    // By the panel's flags, the first byte of PSR, the areas, and the bit that CDI makes white.
+    pub fn of(panel: Uc8253Geometry, regs: Registers, variant: Variant) -> Pixels
+        ensures { λ r. ⌜ r ≡ pixelsOf panel regs variant ⌝ }
+    {
+        let psr = regs.psr;
+        let first = psr[0];
+        let columns = Scan {
+            reversed: panel.columns_reversed,
+            count: panel.sources,
+            straight: psr_shl(first),
+        };
+        let rows = Scan {
+            reversed: panel.rows_reversed,
+            count: panel.gates,
+            straight: psr_ud(first),
+        };
+        let active = regs.active();
+        let area = regs.written();
+        let white = white_bit(regs.one_is_white(variant));
+        Pixels {
+            columns,
+            rows,
+            active,
+            area,
+            white,
+        }
+    }
+}
+
+fn white_bit(one_is_white: bool) -> u8
+    ensures { λ r. ⌜ r ≡ pick «one_is_white» 1 0 ⌝ }
+{
+    if one_is_white { 1 } else { 0 }
 }
 
 // a - b, 0 where b is larger.

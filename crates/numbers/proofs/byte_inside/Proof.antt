@@ -1,39 +1,31 @@
+-- `numbers::byte_inside` meets its contract, by its four tests.
 use Rattle.numbers.specs.Row.{byteInside}
 use borrow.Author.Tests.{le-leb, lt-leb, eq-eqb, ne-eqb}
 use borrow.Author.Needs.{needs}
 use Rattle.numbers.proofs.byte_inside.Statement.{statement}
 use Rattle.numbers.proofs.byte_inside.Tie as tie
-use Rattle.numbers.proofs.byte_inside.Reads as reads
-use Rattle.numbers.proofs.byte_inside.Lts as lts
 
--- src/lib.rt:168:9
 returns : tie.Need-returns
 unfolding byteInside
 returns c = simp (ne-eqb _ _ (c .if1 .taken))
 
--- src/lib.rt:170:25
 add-if2 : tie.Need-add-if2
 add-if2 c = search needs
 
--- src/lib.rt:171:9
 returns-2 : tie.Need-returns-2
 unfolding byteInside
 returns-2 c = simp (eq-eqb _ _ (c .before .if1 .left), lt-leb _ _ (c .if2 .taken))
 
--- src/lib.rt:174:9
 returns-3 : tie.Need-returns-3
 unfolding byteInside
 returns-3 c = simp (eq-eqb _ _ (c .before .before .before .if1 .left), le-leb _ _ (c .before .before .if2 .left), lt-leb _ _ (c .if3 .taken))
 
--- src/lib.rt:176:5
 add-result : tie.Need-add-result
 add-result c = search needs
 
--- src/lib.rt:176:21
 cast-result : tie.Need-cast-result
 cast-result c = search needs
 
--- src/lib.rt:164:1
 returns-4 : tie.Need-returns-4
 unfolding byteInside
 returns-4 c = simp (eq-eqb _ _ (c .before .before .before .before .if1 .left), le-leb _ _ (c .before .before .before .if2 .left), le-leb _ _ (c .before .if3 .left))

@@ -1,28 +1,21 @@
+-- `numbers::reversed` meets its contract, by the flag.
 use mathlib.Core.Path.{_≡_, refl, sym, ap, subst, _∙_}
 use borrow.Author.Needs.{needs}
 use Rattle.numbers.proofs.reversed.Statement.{statement}
 use Rattle.numbers.proofs.reversed.Tie as tie
-use Rattle.numbers.proofs.reversed.Reads as reads
-use Rattle.numbers.proofs.reversed.Lts as lts
-use Rattle.numbers.proofs.less.Reads as less-reads
 
--- src/lib.rt:51:26
 cast-less : tie.Need-cast-less
 cast-less c = search needs
 
--- src/lib.rt:51:21
 less-requires : tie.Need-less-requires
 less-requires c κs = search needs
 
--- src/lib.rt:51:9
 less-requires-2 : tie.Need-less-requires-2
 less-requires-2 c κs = search needs
 
--- src/lib.rt:51:9
 returns : tie.Need-returns
 returns c = simp (c .before .before .before .if1 .taken, c .less2 .ensures, c .before .less .ensures)
 
--- src/lib.rt:47:1
 returns-2 : tie.Need-returns-2
 returns-2 c = search needs
 

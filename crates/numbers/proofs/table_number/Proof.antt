@@ -1,25 +1,20 @@
+-- `numbers::table_number` meets its contract, by its four cases.
 use Rattle.numbers.specs.Number.{tableOf}
 use Rattle.numbers.proofs.table_number.Statement.{statement}
 use Rattle.numbers.proofs.table_number.Tie as tie
-use Rattle.numbers.proofs.table_number.Reads as reads
-use Rattle.numbers.proofs.table_number.Lts as lts
 
--- src/lib.rt:72:1
 returns : tie.Need-returns
 unfolding tableOf
 returns c = simp (c .before .if1 .taken, c .if2 .taken)
 
--- src/lib.rt:72:1
 returns-2 : tie.Need-returns-2
 unfolding tableOf
 returns-2 c = simp (c .before .if1 .taken, c .if2 .left)
 
--- src/lib.rt:72:1
 returns-3 : tie.Need-returns-3
 unfolding tableOf
 returns-3 c = simp (c .before .if1 .left, c .if3 .taken)
 
--- src/lib.rt:72:1
 returns-4 : tie.Need-returns-4
 unfolding tableOf
 returns-4 c = simp (c .before .if1 .left, c .if3 .left)

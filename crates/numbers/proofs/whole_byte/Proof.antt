@@ -1,26 +1,20 @@
+-- `numbers::whole_byte` meets its contract, by its tests.
 use Rattle.numbers.specs.Row.{wholeByte}
 use borrow.Author.Needs.{needs}
 use Rattle.numbers.proofs.whole_byte.Statement.{statement}
 use Rattle.numbers.proofs.whole_byte.Tie as tie
-use Rattle.numbers.proofs.whole_byte.Reads as reads
-use Rattle.numbers.proofs.whole_byte.Lts as lts
-use Rattle.numbers.proofs.byte_inside.Reads as byte-inside-reads
 
--- src/lib.rt:184:9
 returns : tie.Need-returns
 unfolding wholeByte
 returns c = simp (c .if1 .taken)
 
--- src/lib.rt:187:9
 byte-inside-requires : tie.Need-byte-inside-requires
 byte-inside-requires c κs = search needs
 
--- src/lib.rt:187:9
 returns-2 : tie.Need-returns-2
 unfolding wholeByte
 returns-2 c = simp (c .before .before .if1 .left, c .before .if2 .taken, c .byte-inside .ensures)
 
--- src/lib.rt:180:1
 returns-3 : tie.Need-returns-3
 unfolding wholeByte
 returns-3 c = simp (c .before .if1 .left, c .if2 .left)

@@ -5,9 +5,6 @@ use mathlib.Core.Path.{_≡_, _∙_, sym}
 use native.Mathlib.Omega.{arith}
 use Rattle.waveform.proofs.round_frames.Statement.{statement}
 use Rattle.waveform.proofs.round_frames.Tie as tie
-use Rattle.waveform.proofs.round_frames.Reads as reads
-use Rattle.waveform.proofs.round_frames.Lts as lts
-use Rattle.waveform.proofs.wide.Reads as wide-reads
 
 array-read-wide : tie.Need-array-read-wide
 array-read-wide c = search needs
