@@ -9,7 +9,7 @@ use Rattle.base.specs.Integer.{up, dn}
 use Rattle.base.proofs.Integer.{up-neg, dn-neg, up-sub, dn-sub, up-times, dn-times}
 use Rattle.waveform.specs.declared.Drive.{Drive}
 use Rattle.waveform.specs.declared.Levels.{Levels}
-use Rattle.waveform.specs.Levels.{levelOf, floats}
+use Rattle.waveform.specs.Levels.{levelOfCode, floats}
 use Rattle.waveform.specs.Frames.{driveOf}
 use Rattle.waveform.specs.Progress.{Drives}
 
@@ -28,10 +28,10 @@ abbrev pub fall : ℤ → ℤ → ℕ → ℕ
 fall a b n = min ((dn a + up b - (up a + dn b)) * n) top
 
 module _ (l : Levels) (n s v : ℕ) (h : floats v ≡ false) where
-  pub drives-white : Drives (driveOf l n false s v) ≡ record { up = rise (levelOf l s) (levelOf l v) n; down = fall (levelOf l s) (levelOf l v) n }
+  pub drives-white : Drives (driveOf l n false s v) ≡ record { up = rise (levelOfCode l s) (levelOfCode l v) n; down = fall (levelOfCode l s) (levelOfCode l v) n }
   unfolding driveOf
-  drives-white = rw h (λ i. record { up = min (up-volts (levelOf l s) (levelOf l v) n i) top; down = min (dn-volts (levelOf l s) (levelOf l v) n i) top })
+  drives-white = rw h (λ i. record { up = min (up-volts (levelOfCode l s) (levelOfCode l v) n i) top; down = min (dn-volts (levelOfCode l s) (levelOfCode l v) n i) top })
 
-  pub drives-black : Drives (driveOf l n true s v) ≡ record { up = fall (levelOf l s) (levelOf l v) n; down = rise (levelOf l s) (levelOf l v) n }
+  pub drives-black : Drives (driveOf l n true s v) ≡ record { up = fall (levelOfCode l s) (levelOfCode l v) n; down = rise (levelOfCode l s) (levelOfCode l v) n }
   unfolding driveOf
-  drives-black = rw h (λ i. record { up = min ((up-neg ((levelOf l s -ℤ levelOf l v) *ℤ pos n) ∙ dn-volts (levelOf l s) (levelOf l v) n) i) top; down = min ((dn-neg ((levelOf l s -ℤ levelOf l v) *ℤ pos n) ∙ up-volts (levelOf l s) (levelOf l v) n) i) top })
+  drives-black = rw h (λ i. record { up = min ((up-neg ((levelOfCode l s -ℤ levelOfCode l v) *ℤ pos n) ∙ dn-volts (levelOfCode l s) (levelOfCode l v) n) i) top; down = min ((dn-neg ((levelOfCode l s -ℤ levelOfCode l v) *ℤ pos n) ∙ up-volts (levelOfCode l s) (levelOfCode l v) n) i) top })

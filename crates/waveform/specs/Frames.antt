@@ -9,7 +9,7 @@ use Rattle.base.specs.InTurn.{inTurn}
 use Rattle.waveform.specs.declared.Group.{Group}
 use Rattle.waveform.specs.declared.Levels.{Levels}
 use Rattle.waveform.specs.declared.Waveform.{Waveform}
-use Rattle.waveform.specs.Levels.{levelOf, floats}
+use Rattle.waveform.specs.Levels.{levelOfCode, floats}
 use Rattle.waveform.specs.Tables.{running, tableAt}
 
 -- the drive of a frame: (source - VCOM) millivolts × period, negated where positive drives black; 0 where VCOM floats
@@ -18,7 +18,7 @@ driveOf l period black source vcom =
     pick (floats vcom) (pos 0) (pick black (negℤ (volts *ℤ pos period)) (volts *ℤ pos period))
   where
     volts : ℤ
-    volts = levelOf l source -ℤ levelOf l vcom
+    volts = levelOfCode l source -ℤ levelOfCode l vcom
 
 -- a group past a table's end
 abbrev pub blank : Group

@@ -17,8 +17,8 @@ abbrev pub levelsOf : List ℕ → Levels
 levelsOf power = record { vdh = supplyLevel (getD power 2 0); vdl = supplyLevel (getD power 3 0); vdhr = supplyLevel (getD power 4 0) }
 
 -- the level of a 2-bit code: 0 is 0; codes 1, 2, 3 are the third byte of 01, the fourth negated and the fifth
-unfoldable pub levelOf : Levels → ℕ → ℤ
-levelOf l code = pick (eqb (code % 4) 1) (pos (l .vdh)) (pick (eqb (code % 4) 2) (negℤ (pos (l .vdl))) (pick (eqb (code % 4) 3) (pos (l .vdhr)) (pos 0)))
+unfoldable pub levelOfCode : Levels → ℕ → ℤ
+levelOfCode l code = pick (eqb (code % 4) 1) (pos (l .vdh)) (pick (eqb (code % 4) 2) (negℤ (pos (l .vdl))) (pick (eqb (code % 4) 3) (pos (l .vdhr)) (pos 0)))
 
 -- code 3 of VCOM floats
 unfoldable pub floats : ℕ → Bool

@@ -11,7 +11,7 @@ ghost use lib.ListN.{length, take, replicate};
 ghost use lib.IntN.{ℤ};
 ghost use Rattle.base.specs.Word.{top};
 ghost use Rattle.glass.specs.Transfer.{Acts};
-ghost use Rattle.waveform.specs.Levels.{supplyLevel, levelsOf, levelOf};
+ghost use Rattle.waveform.specs.Levels.{supplyLevel, levelsOf, levelOfCode};
 ghost use Rattle.waveform.specs.Tables.{groupOf, tableOf, tablesOf, heldOf, waveformOf, sumOf, ends, running, counted, durationOf};
 ghost use Rattle.waveform.specs.Frames.{driveOf, vcomCodes, roundFrames, groupFrames, tableFrames, framesOf};
 ghost use Rattle.waveform.specs.Progress.{Parts, Drives, Extends};
@@ -193,7 +193,7 @@ struct Volts {
 }
 
 fn level_of(levels: Levels, code: u8) -> Volts
-    ensures { λ r. ⌜ r ≡ Parts (levelOf levels code) ⌝ }
+    ensures { λ r. ⌜ r ≡ Parts (levelOfCode levels code) ⌝ }
 {
     let c = code % 4;
     if c == 1 {

@@ -8,7 +8,7 @@ use Rattle.waveform.specs.Progress.{Drives}
 use Prim.Native.Nat.{ℕ, _+_, _-_, _*_, _≤_, _<_, min}
 use native.Mathlib.Omega.{arith}
 use Rattle.base.specs.Word.{top}
-use Rattle.waveform.specs.Levels.{levelOf, floats}
+use Rattle.waveform.specs.Levels.{levelOfCode, floats}
 use Rattle.waveform.specs.Frames.{driveOf}
 use Rattle.waveform.proofs.DriveLaws.{rise, fall, drives-white, drives-black}
 use borrow.Author.Needs.{needs}
@@ -55,10 +55,10 @@ module _ (c : tie.After-energy2) where
   start = c .before .before .before .before .before .before .before .before .before .before
 
   abbrev source : ℤ
-  source = levelOf (start .args .supply .levels) (start .args .source)
+  source = levelOfCode (start .args .supply .levels) (start .args .source)
 
   abbrev common : ℤ
-  common = levelOf (start .args .supply .levels) (start .args .vcom)
+  common = levelOfCode (start .args .supply .levels) (start .args .vcom)
 
   held : floats (start .args .vcom) ≡ false
   unfolding floats
