@@ -1,9 +1,8 @@
 -- The reset registers are in range, and every data byte keeps them there; the active area lies in the RAM, and so does the written one.
-use mathlib.Core.Bool.{Bool, true, false}
 use Prim.Native.Nat.{ℕ, _≤_, _<_}
 use native.Mathlib.Omega.{arith}
 use lib.Dec.{eqb}
-use Rattle.base.specs.Pick.{pick}
+use Rattle.base.proofs.Cases.{both}
 use Rattle.config.specs.declared.Variant.{Variant}
 use Rattle.registers.specs.declared.Area.{Area}
 use Rattle.registers.specs.declared.Pair.{Pair}
@@ -12,10 +11,6 @@ use Rattle.registers.specs.Bytes.{highOf, lowOf, lowColumn, tenBits, win
 use Rattle.registers.specs.Range.{InRam, InTenBits, InRange}
 use Rattle.registers.specs.Reset.{resetOf}
 use Rattle.registers.specs.Written.{activeOf, writtenOf}
-
-both : {A : Type 0} (P : A → Type 0) (t : Bool) {a b : A} → P a → P b → P (pick t a b)
-both P true p q = p
-both P false p q = q
 
 high-most : (x b : ℕ) → highOf x b ≤ 1023
 high-most x b = omega arith

@@ -20,7 +20,7 @@ lowOf x b = x / 256 % 4 * 256 + b
 abbrev pub lowColumn : ℕ → ℕ → ℕ
 lowColumn x b = x / 256 % 4 * 256 + b / 8 * 8
 
--- 61 and 65: bits 9:8 of the column, its low byte, bits 9:8 of the row, its low byte
+-- 61 and 65: bits 9:8 of the column, its low byte, bits 9:8 of the row, its low byte; a byte past the fourth, which neither takes, would be another low byte of the row
 unfoldable pub tenBits : ℕ → ℕ → Pair → Pair
 tenBits i b p =
     pick (eqb i 0) (record { h = highOf (p .h) b; v = p .v })
@@ -41,7 +41,7 @@ withY0 a n = record { x0 = a .x0; y0 = n; x1 = a .x1; y1 = a .y1 }
 abbrev pub withY1 : Area → ℕ → Area
 withY1 a n = record { x0 = a .x0; y0 = a .y0; x1 = a .x1; y1 = n }
 
--- 90: first column, last column, whose three low bits are set, first row, last row, each by its bits 9:8 and then its low byte
+-- 90: first column, last column, whose three low bits are set, first row, last row, each by its bits 9:8 and then its low byte; the ninth byte changes nothing
 unfoldable pub windowSet : ℕ → ℕ → Area → Area
 windowSet i b a =
     pick (eqb i 0) (withX0 a (highOf (a .x0) b))

@@ -11,7 +11,7 @@ abbrev pub resetCdi : Variant → List ℕ
 resetCdi Uc8253 = 0x31 ∷ 0x07 ∷ []
 resetCdi Uc8279d = 0xD7 ∷ 0x00 ∷ []
 
--- 00, 01, 30 and 50 by their bytes; the whole RAM for 61, 65 and 90; no window
+-- 00, 01, 30 and 50 by their bytes; the whole RAM by 61, 65 and 90; not under 91
 unfoldable pub resetOf : Variant → Registers
 resetOf variant = record {
   psr = 0x0F ∷ 0x8D ∷ [];

@@ -62,6 +62,7 @@ impl Luts {
             bytes_of(self.luts[4]),
         ]
     }
+
     // What data byte number `index`, from 0, of a command does to the LUTs: nothing unless the command
     // is one of 20 to 24.
     pub fn with_byte(self, command: u8, index: u16, byte: u8) -> Luts
