@@ -103,6 +103,7 @@ module _ {A B : Type 0} (f : B → A → A) where
   beside-past (suc i) (b ∷ bs) (x ∷ l) d h = beside-past i bs l d (le-of-suc-le-suc h)
 
 -- ---- tested entry by entry
+-- a test that goes on only where the first passes
 both : (a b : Bool) → pick a b false ≡ true → (a ≡ true) × (b ≡ true)
 both true b e = (refl, e)
 both false true e = (e, refl)
@@ -119,7 +120,7 @@ module _ {A : Type 0} (p : A → Bool) where
   pub every-done : (l : List A) (i : ℕ) → length l ≤ i → every p (drop i l) ≡ true
   every-done l i h = rw (drop-of-length-le l h)
 
-  -- each entry passes, and then all do
+  -- where all pass each does, and the other way round
   pub every-at : (l : List A) → every p l ≡ true → (i : ℕ) → i < length l → (d : A) → p (getD l i d) ≡ true
   every-at [] e i h d = absurd (not-suc-le-zero h)
   every-at (x ∷ l) e zero h d = both (p x) (every p l) e .0

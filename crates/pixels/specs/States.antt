@@ -1,7 +1,7 @@
 -- Document 01, "Making a panel": states as a buffer holds them, and refusal 7.
 use mathlib.Core.Path.{_≡_}
 use mathlib.Core.Bool.{Bool, true, false}
-use mathlib.Core.List.{List, [], _∷_}
+use mathlib.Core.List.{List}
 use Prim.Native.Nat.{ℕ, _≤_, min}
 use lib.Dec.{leb, eqb}
 use lib.IntN.{ℤ, pos, negsuc}

@@ -14,6 +14,18 @@ use glass::gray;
 // The largest state that an i64 holds: 2^63 - 1.
 const MOST: u64 = 0x7FFF_FFFF_FFFF_FFFF;
 
+// The table numbers of a pixel: white stays white, black to white, white to black, black stays
+// black, and no table.
+const WW: u8 = 1;
+
+const KW: u8 = 2;
+
+const WK: u8 = 3;
+
+const KK: u8 = 4;
+
+const UNDRIVEN: u8 = 255;
+
 // How far a state lies above zero.
 fn above(z: i64) -> u64
     ensures { λ r. ⌜ r ≡ up z ⌝ }
@@ -80,16 +92,16 @@ fn moved(number: u8, z: i64, ww: Transfer, kw: Transfer, wk: Transfer, kk: Trans
     ensures { λ r. ⌜ r ≡ movedBy ww kw wk kk number z ⌝ }
 {
     match number {
-        1 => moved_once(ww, z),
-        2 => moved_once(kw, z),
-        3 => moved_once(wk, z),
-        4 => moved_once(kk, z),
+        WW => moved_once(ww, z),
+        KW => moved_once(kw, z),
+        WK => moved_once(wk, z),
+        KK => moved_once(kk, z),
         _ => z,
     }
 }
 
-// Every state moves by the transfer of its table number: 1 white stays white, 2 black to white, 3
-// white to black, 4 black stays black. Another number leaves it, and so does a missing one.
+// Every state moves by the transfer of its table number. Another number leaves it, and so does a
+// missing one.
 pub fn drive(
     states: &mut [i64],
     numbers: &[u8],
@@ -175,7 +187,7 @@ fn is_number(n: u8) -> bool
     ensures { λ r. ⌜ r ≡ isNumber n ⌝ }
 {
     match n {
-        1 | 2 | 3 | 4 | 255 => true,
+        WW | KW | WK | KK | UNDRIVEN => true,
         _ => false,
     }
 }

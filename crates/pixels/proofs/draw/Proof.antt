@@ -3,7 +3,7 @@ use mathlib.Core.Path.{_≡_, sym, ap, _∙_}
 use Prim.Native.Nat.{ℕ, _-_}
 use borrow.Author.Needs.{needs}
 use native.Mathlib.Omega.{arith}
-use lib.ListN.{length, getD}
+use lib.ListN.{getD}
 use lib.IntN.{ℤ, pos}
 use mir.Syntax.{w64}
 use mir.Val.{toZ, ofZ}
@@ -62,9 +62,11 @@ loop-again c =
     let i = head .loop .i in
     let e = c .shaded .ensures in
     let read : toZ w64 (ofZ w64 (getD (now (a .states)) i (pos 0))) ≡ getD (now (a .states)) i (pos 0) =
-    toZ-ofZ {w = w64} {z = getD (now (a .states)) i (pos 0)} (record { sfits = c .before .z .given }) in
-    (e ∙ ap (shadeOf (a .swing)) (sym (ap (λ (r : Shade). r .state) e)), changed-more (shade (a .swing)) (now (a .states)) (now (a .picture)) (head .loop .picture) i (pos 0) 0 (c .shaded .result .gray) (head .loop .inv .1) (omega arith) (omega arith)
-    (ap (λ (r : Shade). r .gray) e ∙ ap (λ (z : ℤ). grayOf (up z) (a .swing)) read))
+    toZ-ofZ {w = w64} {z = getD (now (a .states)) i (pos 0)} (record { sfits = c .before .z .given }) in (
+      e ∙ ap (shadeOf (a .swing)) (sym (ap (λ (r : Shade). r .state) e)),
+      changed-more (shade (a .swing)) (now (a .states)) (now (a .picture)) (head .loop .picture) i (pos 0) 0 (c .shaded .result .gray) (head .loop .inv .1) (omega arith) (omega arith)
+          (ap (λ (r : Shade). r .gray) e ∙ ap (λ (z : ℤ). grayOf (up z) (a .swing)) read),
+    )
 
 same-length : tie.Need-same-length Inv-loop μ-loop
 same-length c = c .before .loop .inv .1 .long

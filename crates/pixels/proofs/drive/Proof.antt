@@ -3,8 +3,8 @@ use mathlib.Core.Path.{_≡_, ap, _∙_}
 use Prim.Native.Nat.{_-_}
 use borrow.Author.Needs.{needs}
 use native.Mathlib.Omega.{arith}
-use lib.ListN.{length, getD}
-use lib.IntN.{ℤ, pos}
+use lib.ListN.{getD}
+use lib.IntN.{pos}
 use mir.Syntax.{w64}
 use mir.Val.{toZ, ofZ}
 use mir.Facts.{toZ-ofZ}
@@ -56,14 +56,14 @@ loop-again : tie.Need-loop-again Inv-loop μ-loop
 loop-again c =
     let head = c .before .before .before .before in
     let a = head .before .before .before .args in
-    let f = movedBy (a .ww) (a .kw) (a .wk) (a .kk) in
-    let l = head .loop .states in
-    let i = head .loop .i in
-    let back : toZ w64 (ofZ w64 (c .moved .result)) ≡ f (getD (now (a .numbers)) i 0) (getD l i (pos 0)) =
-    toZ-ofZ {w = w64} {z = c .moved .result} (record { sfits = c .moved .ok })
-    ∙ c .moved .ensures
-    ∙ ap (f (getD (now (a .numbers)) i 0)) (toZ-ofZ {w = w64} {z = getD l i (pos 0)} (record { sfits = c .before .before .z .given })) in
-    changed-more f (now (a .numbers)) (now (a .states)) l i 0 (pos 0) (toZ w64 (ofZ w64 (c .moved .result))) (head .loop .inv) (omega arith) (omega arith) back
+    let n = getD (now (a .numbers)) (head .loop .i) 0 in
+    let z = getD (head .loop .states) (head .loop .i) (pos 0) in
+    let stored : toZ w64 (ofZ w64 (c .moved .result)) ≡ c .moved .result = toZ-ofZ {w = w64} {z = c .moved .result} (record { sfits = c .moved .ok }) in
+    let result : c .moved .result ≡ movedBy (a .ww) (a .kw) (a .wk) (a .kk) n (toZ w64 (ofZ w64 z)) = c .moved .ensures in
+    let read : toZ w64 (ofZ w64 z) ≡ z = toZ-ofZ {w = w64} {z = z} (record { sfits = c .before .before .z .given }) in
+    changed-more (movedBy (a .ww) (a .kw) (a .wk) (a .kk)) (now (a .numbers)) (now (a .states)) (head .loop .states) (head .loop .i) 0 (pos 0)
+    (toZ w64 (ofZ w64 (c .moved .result))) (head .loop .inv) (omega arith) (omega arith)
+    (stored ∙ result ∙ ap (movedBy (a .ww) (a .kw) (a .wk) (a .kk) n) read)
 
 same-length : tie.Need-same-length Inv-loop μ-loop
 same-length c = c .before .loop .inv .long
