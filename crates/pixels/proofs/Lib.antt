@@ -1,0 +1,5 @@
+pub mod Machine
+pub mod ListLaws
+pub mod StateLaws
+pub mod DriveLaws
+pub mod DrawLaws

@@ -1,0 +1,4 @@
+pub mod Lists
+pub mod States
+pub mod Drive
+pub mod Draw
