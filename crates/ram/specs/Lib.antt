@@ -1,4 +1,5 @@
 pub mod Plane
+pub mod Found
 pub mod Write
 pub mod Copy
 pub mod Bytewise

@@ -5,6 +5,7 @@ ghost use mathlib.Core.Path.{_≡_};
 ghost use Prim.Native.Nat.{_+_, _-_, _%_, _<_, _≤_, min};
 ghost use lib.ListN.{getD, set};
 ghost use Rattle.ram.specs.Plane.{place as placeOf, bitAt};
+ghost use Rattle.ram.specs.Found.{ramBit};
 ghost use Rattle.ram.specs.Write.{putInside, written, nextOf};
 ghost use Rattle.ram.specs.Bytewise.{wholeByte};
 ghost use Rattle.ram.specs.Copy.{copiedBits, copiedRow, copied};
@@ -14,6 +15,7 @@ mod byte;
 use byte::bit_of;
 use byte::merged;
 use byte::with_bit;
+use config::RAM_GATES;
 use config::RAM_SOURCES;
 use registers::Area;
 
@@ -37,12 +39,14 @@ fn place(x: usize, y: usize) -> usize
     y * ROW_BYTES + x / 8
 }
 
+// The byte at a place, 0 past the end.
 pub fn byte_at(plane: &[u8], at: usize) -> u8
     ensures { λ r. ⌜ r ≡ getD (now (plane .entry)) at 0 ⌝ }
 {
     if at < plane.len() { plane[at] } else { 0 }
 }
 
+// A byte stored at a place, nothing past the end.
 pub fn store(plane: &mut [u8], at: usize, byte: u8)
     ensures { λ r. ⌜ now (plane .exit) ≡ set (now (plane .entry)) at byte ⌝ }
 {
@@ -57,6 +61,25 @@ pub fn bit(plane: &[u8], x: u16, y: u16) -> u8
 {
     let at = place(x as usize, y as usize);
     bit_of(byte_at(plane, at), x as usize % 8)
+}
+
+// What stands at a place: a bit of the RAM, or nothing past it.
+pub enum Found {
+    Bit(u8),
+    Nothing,
+}
+
+// A pixel of the RAM, nothing past its 800 columns and 600 rows.
+pub fn ram_bit(plane: &[u8], x: u16, y: u16) -> Found
+    ensures { λ r. ⌜ r ≡ ramBit (now (plane .entry)) x y ⌝ }
+{
+    if RAM_SOURCES <= x {
+        return Found::Nothing;
+    }
+    if RAM_GATES <= y {
+        return Found::Nothing;
+    }
+    Found::Bit(bit(plane, x, y))
 }
 
 // One bit, if it lies inside the area.
