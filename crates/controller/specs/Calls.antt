@@ -1,0 +1,171 @@
+-- The calls: refused first, with the record given back and no lent entry changed; else the clock, what has come to its end, and then the call's own.
+use mathlib.Core.Bool.{Bool, true, false}
+use mathlib.Core.List.{List, [], _∷_}
+use Prim.Native.Nat.{ℕ, _*_}
+use lib.Dec.{eqb, ltb}
+use lib.ListN.{length, take, drop, replicate}
+use lib.IntN.{ℤ, pos}
+use Rattle.base.specs.Pick.{pick}
+use Rattle.config.specs.declared.Uc8253Config.{Uc8253Config}
+use Rattle.config.specs.declared.Variant.the-variants as variant
+use Rattle.glass.specs.declared.RefreshKind.the-variants as shown
+use Rattle.glass.specs.Gray.{levelOf}
+use Rattle.registers.specs.Luts.{resetLuts}
+use Rattle.registers.specs.Reset.{resetOf}
+use Rattle.waveform.specs.declared.Waveform.{Waveform}
+use Rattle.waveform.specs.Frames.{blank}
+use Rattle.ram.specs.declared.Found.{Found}
+use Rattle.ram.specs.declared.Found.the-variants as found
+use Rattle.ram.specs.Found.{ramBit}
+use Rattle.log.specs.Log.{takenOf}
+use Rattle.controller.specs.declared.Power.the-variants as power
+use Rattle.controller.specs.declared.Work.{Work}
+use Rattle.controller.specs.declared.Work.the-variants as work
+use Rattle.controller.specs.declared.Current.the-variants as current
+use Rattle.controller.specs.declared.Uc8253.{Uc8253}
+use Rattle.controller.specs.declared.reads.Read.{Read}
+use Rattle.controller.specs.declared.reads.Read.the-variants.{Byte, Nothing}
+use Rattle.controller.specs.declared.Due.{Due}
+use Rattle.controller.specs.declared.Due.the-variants as due
+use Rattle.controller.specs.World.{World, Buffers, world, onChip, withLog}
+use Rattle.controller.specs.TurnedBack.{foreignRecord, turnedBack, makingRefused, lentRefused}
+use Rattle.controller.specs.Arrives.{arrived, rest, busyAt}
+use Rattle.controller.specs.Command.{commandByte}
+use Rattle.controller.specs.DataByte.{dataByte}
+use Rattle.controller.specs.Reading.{reading, readOf}
+use Rattle.controller.specs.Reset.{resetEdge}
+
+-- a later call at a time
+unfoldable pub called : Bool → ℕ → (World → World) → World → World
+called asserted t f w = pick (eqb (turnedBack asserted t w) 0) (f (arrived t w)) w
+
+abbrev pub commandCall : ℕ → ℕ → World → World
+commandCall t c w = called false t (commandByte c) w
+
+abbrev pub dataCall : ℕ → ℕ → World → World
+dataCall t b w = called false t (dataByte b) w
+
+abbrev pub readCall : ℕ → World → World
+readCall t w = called false t reading w
+
+-- a refused read gives none
+unfoldable pub readAnswer : ℕ → World → Read
+readAnswer t w = pick (eqb (turnedBack false t w) 0) (readOf (arrived t w .chip)) Nothing
+
+abbrev pub resetCall : ℕ → Bool → World → World
+resetCall t asserted w = called asserted t (resetEdge asserted) w
+
+abbrev pub advanceCall : ℕ → World → World
+advanceCall t w = called false t (λ v. v) w
+
+-- taking the rows: 6, then 5 for the rows; stored becomes 0, and the call says how many rows there were
+unfoldable pub takingRefused : Uc8253 → List ℕ → ℕ
+takingRefused p rows = lentRefused p (eqb (length rows) 5120)
+
+unfoldable pub takeCall : World → World
+takeCall w = pick (eqb (takingRefused (w .chip) (w .lent .rows)) 0) (onChip (λ p. withLog (takenOf (p .log)) p) w) w
+
+unfoldable pub takenRows : Uc8253 → List ℕ → ℕ
+takenRows p rows = pick (eqb (takingRefused p rows) 0) (p .log .stored) 0
+
+-- the questions test 6, then 5 for what they are lent
+unfoldable pub questionRefused : Uc8253 → ℕ
+questionRefused p = lentRefused p true
+
+unfoldable pub busyAnswer : Uc8253 → ℕ → Bool
+busyAnswer p t = pick (foreignRecord p) false (busyAt (p .mode .power) (p .operation) t)
+
+-- the end of the operation under way, if one is
+abbrev pub dueOf : Work → ℕ → Due
+dueOf work.Nothing until = due.Never
+dueOf work.PowerOn until = due.At until
+dueOf work.PowerOff until = due.At until
+dueOf work.DeepSleep until = due.At until
+dueOf work.SoftReset until = due.At until
+dueOf work.HardwareReset until = due.At until
+dueOf (work.Refresh r) until = due.At until
+
+unfoldable pub deadlineAnswer : Uc8253 → Due
+deadlineAnswer p = pick (foreignRecord p) due.Never (dueOf (p .operation .work) (p .operation .until))
+
+unfoldable pub bitRefused : Uc8253 → List ℕ → ℕ
+bitRefused p plane = lentRefused p (eqb (length plane) 60000)
+
+unfoldable pub bitAnswer : Uc8253 → List ℕ → ℕ → ℕ → Found
+bitAnswer p plane x y = pick (eqb (bitRefused p plane) 0) (ramBit plane x y) found.Nothing
+
+unfoldable pub rowRefused : Uc8253 → List ℕ → ℕ
+rowRefused p picture = lentRefused p (eqb (length picture) (p .config .panel .sources * p .config .panel .gates))
+
+-- that part of the lent picture; a row past the last, or a refused question, gives an empty part
+unfoldable pub rowAnswer : Uc8253 → List ℕ → ℕ → List ℕ
+rowAnswer p picture y =
+    pick (eqb (rowRefused p picture) 0)
+    (pick (ltb y (p .config .panel .gates)) (take (p .config .panel .sources) (drop (y * p .config .panel .sources) picture)) [])
+    []
+
+-- no table, no level, no period
+unfoldable pub noWaveform : Waveform
+noWaveform = record { tables = replicate 5 (record { groups = replicate 7 blank }); levels = record { vdh = 0; vdl = 0; vdhr = 0 }; «frame_ns» = 0 }
+
+-- a record of zeros
+unfoldable pub zeros : Uc8253
+zeros = record {
+  config = record {
+    variant = variant.Uc8253;
+    panel = record { sources = 0; gates = 0; «rows_reversed» = false; «columns_reversed» = false };
+    optics = record { «full_swing» = 0; «positive_drives_black» = false; «initial_gray» = 0 };
+    timing = record { «power_on» = 0; «power_off» = 0; «deep_sleep» = 0; «soft_reset» = 0; «hardware_reset» = 0; «frame_period» = replicate 32 0 };
+    «ambient_celsius» = 0;
+  };
+  regs = record {
+    psr = replicate 2 0;
+    power = replicate 5 0;
+    pll = 0;
+    cdi = replicate 2 0;
+    resolution = record { h = 0; v = 0 };
+    start = record { h = 0; v = 0 };
+    window = record { x0 = 0; y0 = 0; x1 = 0; y1 = 0 };
+    partial = false;
+  };
+  luts = resetLuts;
+  mode = record { power = power.Running; powered = false; «data_flag» = false };
+  stage = record { current = current.Idle };
+  operation = rest;
+  waveform = noWaveform;
+  image = record { width = 0; height = 0; generation = 0; kind = shown.PowerOn; interrupted = false; started = 0; at = 0 };
+  log = record { stored = 0; dropped = 0 };
+  now = 0;
+}
+
+-- the chip at power-on
+unfoldable pub firstChip : Uc8253Config → Uc8253
+firstChip c = record {
+  config = c;
+  regs = resetOf (c .variant);
+  luts = resetLuts;
+  mode = record { power = power.Running; powered = false; «data_flag» = false };
+  stage = record { current = current.Idle };
+  operation = rest;
+  waveform = noWaveform;
+  image = record { width = c .panel .sources; height = c .panel .gates; generation = 0; kind = shown.PowerOn; interrupted = false; started = 0; at = 0 };
+  log = record { stored = 0; dropped = 0 };
+  now = 0;
+}
+
+-- every state full swing × initial grey / 255, the picture the initial grey, and planes, table numbers and diagnostics zero
+unfoldable pub firstBuffers : Uc8253Config → Buffers
+firstBuffers c =
+    let pixels = c .panel .sources * c .panel .gates in
+    record {
+      old = replicate 60000 0;
+      new = replicate 60000 0;
+      states = replicate pixels (pos (levelOf (c .optics .«initial_gray») (c .optics .«full_swing»)));
+      numbers = replicate pixels 0;
+      picture = replicate pixels (c .optics .«initial_gray»);
+      rows = replicate 5120 0;
+    }
+
+-- making; a refusal returns a record of zeros and changes no lent entry
+unfoldable pub made : Uc8253Config → Buffers → World
+made c b = pick (eqb (makingRefused c b) 0) (world (firstChip c) (firstBuffers c)) (world zeros b)

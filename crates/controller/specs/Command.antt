@@ -1,0 +1,130 @@
+-- Document 01, "A command byte": what closes, what is dropped, and what a command does at once.
+use mathlib.Core.Bool.{Bool, true, false, _||_}
+use mathlib.Core.List.{[], _∷_}
+use Prim.Native.Nat.{ℕ}
+use lib.Dec.{eqb, ltb}
+use Rattle.base.specs.Pick.{pick, oneOf, between}
+use Rattle.registers.specs.declared.Registers.{Registers}
+use Rattle.registers.specs.Written.{writtenOf}
+use Rattle.command.specs.declared.kinds.Kind.{Kind}
+use Rattle.command.specs.declared.kinds.Kind.the-variants as kind
+use Rattle.command.specs.Kinds.{kindOf, leastCount}
+use Rattle.diagnostic.specs.declared.DiagnosticKind.the-variants.{MissingData, LutLength, WhileInReset, WhileAsleep, WhileBusy, UnknownCommand, UnsupportedCommand}
+use Rattle.controller.specs.declared.Power.{Power}
+use Rattle.controller.specs.declared.Power.the-variants as power
+use Rattle.controller.specs.declared.Work.{Work}
+use Rattle.controller.specs.declared.Work.the-variants as work
+use Rattle.controller.specs.declared.Active.{Active}
+use Rattle.controller.specs.declared.Current.{Current}
+use Rattle.controller.specs.declared.Current.the-variants as current
+use Rattle.controller.specs.declared.Uc8253.{Uc8253}
+use Rattle.controller.specs.declared.notes.Note.{Note}
+use Rattle.controller.specs.declared.notes.Note.the-variants.{Quiet, Told}
+use Rattle.controller.specs.World.{World, onChip, withCurrent, withRegs, withDataFlag, tell, told}
+use Rattle.controller.specs.Arrives.{starting}
+use Rattle.controller.specs.Refresh.{refreshed}
+
+-- kind 5 below its least count, else kind 13 for 20 to 24 unless 42 bytes came
+unfoldable pub closingNote : Active → Note
+closingNote a =
+    pick (ltb (a .received) (leastCount (a .kind))) (Told (MissingData (a .command) (leastCount (a .kind)) (a .received)))
+    (pick (between 0x20 0x24 (a .command)) (pick (eqb (a .received) 42) Quiet (Told (LutLength (a .command) (a .received))))
+    Quiet)
+
+abbrev pub ignoring : World → World
+ignoring w = onChip (withCurrent current.Ignoring) w
+
+-- the previous command closes
+abbrev pub closedBy : Current → World → World
+closedBy current.Idle w = w
+closedBy current.Ignoring w = w
+closedBy (current.Active a) w = ignoring (told (closingNote a) w)
+
+unfoldable pub closed : World → World
+closed w = closedBy (w .chip .stage .current) w
+
+-- the reset line is low; deep sleep; a soft or hardware reset runs; anything runs
+abbrev pub inReset : Power → Bool
+inReset power.Running = false
+inReset power.Asleep = false
+inReset power.InReset = true
+
+abbrev pub asleep : Power → Bool
+asleep power.Running = false
+asleep power.Asleep = true
+asleep power.InReset = false
+
+abbrev pub initialises : Work → Bool
+initialises work.Nothing = false
+initialises work.PowerOn = false
+initialises work.PowerOff = false
+initialises work.DeepSleep = false
+initialises work.SoftReset = true
+initialises work.HardwareReset = true
+initialises (work.Refresh r) = false
+
+abbrev pub busy : Work → Bool
+busy work.Nothing = false
+busy work.PowerOn = true
+busy work.PowerOff = true
+busy work.DeepSleep = true
+busy work.SoftReset = true
+busy work.HardwareReset = true
+busy (work.Refresh r) = true
+
+-- in order: in reset or a soft or hardware reset running, kind 8; asleep, 7; busy and not 70, 71 or 81, 6
+unfoldable pub barredNote : Power → Work → ℕ → Note
+barredNote p x c =
+    pick (inReset p || initialises x) (Told (WhileInReset c))
+    (pick (asleep p) (Told (WhileAsleep c))
+    (pick (busy x) (pick (oneOf (0x70 ∷ 0x71 ∷ 0x81 ∷ []) c) Quiet (Told (WhileBusy c)))
+    Quiet))
+
+-- the command is under way: no byte yet, the cursor at the first column and row of the written area
+unfoldable pub begun : ℕ → Kind → Uc8253 → Uc8253
+begun c k p =
+    withCurrent
+    (current.Active (record {
+      command = c;
+      kind = k;
+      received = 0;
+      read = 0;
+      cursor = record { x = writtenOf (p .regs) .x0; y = writtenOf (p .regs) .y0 };
+      «extra_reported» = false;
+      «past_reported» = false;
+    }))
+    p
+
+-- 91 sets the flag of the window, 92 clears it
+abbrev pub withPartial : Bool → Registers → Registers
+withPartial x r = record { psr = r .psr; power = r .power; pll = r .pll; cdi = r .cdi; resolution = r .resolution; start = r .start; window = r .window; partial = x }
+
+-- 04 acts with power off, 02 with power on; 12 is a refresh; 11 sets the data flag, 10 and 13 clear it
+unfoldable pub executed : ℕ → World → World
+executed c w =
+    pick (eqb c 0x04) (pick (w .chip .mode .powered) w (onChip (starting work.PowerOn (w .chip .config .timing .«power_on»)) w))
+    (pick (eqb c 0x02) (pick (w .chip .mode .powered) (onChip (starting work.PowerOff (w .chip .config .timing .«power_off»)) w) w)
+    (pick (eqb c 0x12) (refreshed w)
+    (pick (eqb c 0x91) (onChip (withRegs (withPartial true (w .chip .regs))) w)
+    (pick (eqb c 0x92) (onChip (withRegs (withPartial false (w .chip .regs))) w)
+    (pick (oneOf (0x10 ∷ 0x13 ∷ []) c) (onChip (withDataFlag false) w)
+    (pick (eqb c 0x11) (onChip (withDataFlag true) w)
+    w))))))
+
+-- unknown, kind 1, and data is ignored; 15, 17, A0 and A1, kind 2, and data is only counted
+abbrev pub sortedBy : Kind → ℕ → World → World
+sortedBy kind.Unknown c w = ignoring (tell (UnknownCommand c) w)
+sortedBy (kind.Unsupported n) c w = onChip (begun c (kind.Unsupported n)) (tell (UnsupportedCommand c) w)
+sortedBy (kind.Write n) c w = executed c (onChip (begun c (kind.Write n)) w)
+sortedBy kind.Read c w = executed c (onChip (begun c kind.Read) w)
+
+-- after 6, 7 or 8 data is ignored
+abbrev pub passedBy : Note → ℕ → World → World
+passedBy (Told k) c w = ignoring (tell k w)
+passedBy Quiet c w = sortedBy (kindOf c (w .chip .config .variant)) c w
+
+unfoldable pub passed : ℕ → World → World
+passed c w = passedBy (barredNote (w .chip .mode .power) (w .chip .operation .work) c) c w
+
+unfoldable pub commandByte : ℕ → World → World
+commandByte c w = passed c (closed w)

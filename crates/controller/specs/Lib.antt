@@ -1,0 +1,9 @@
+pub mod World
+pub mod Arrives
+pub mod Command
+pub mod DataByte
+pub mod Reading
+pub mod Refresh
+pub mod TurnedBack
+pub mod Reset
+pub mod Calls

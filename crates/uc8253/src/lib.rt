@@ -1,0 +1,238 @@
+// The controller's calls (mod.rs), each given the record and the lent buffers: refused first, by
+// number, with the record given back and no lent entry changed; else the clock moves, what has come
+// to its end ends, and the call does its own.
+//
+// A refused making gives back a record of zeros. No call has a condition: every command, data byte,
+// read, reset edge and time is accepted on every record that is not foreign.
+mod arriving;
+mod commands;
+mod data_bytes;
+mod making;
+mod questions;
+mod reading;
+mod refreshes;
+mod resets;
+mod telling;
+
+pub use making::power_on;
+pub use questions::Bit;
+pub use questions::Busy;
+pub use questions::Deadline;
+pub use questions::busy_pin;
+pub use questions::next_deadline;
+pub use questions::ram_bit;
+pub use questions::row;
+pub use questions::row_refused;
+pub use questions::take_diagnostics;
+pub use questions::Taken;
+ghost use mathlib.Core.Path.{_≡_};
+ghost use Rattle.controller.specs.World.{buffers, world};
+ghost use Rattle.controller.specs.TurnedBack as tests;
+ghost use Rattle.controller.specs.Calls.{commandCall, dataCall, readCall, readAnswer, resetCall, advanceCall};
+use arriving::arrive;
+use commands::command_byte;
+use controller::Read;
+use controller::Uc8253;
+use controller::ends_refresh;
+use controller::foreign;
+use controller::lengths_fit;
+use data_bytes::data_byte;
+use pixels::all_numbers;
+use pixels::all_states;
+use reading::read_byte;
+use resets::reset_edge;
+
+// The record after a call, and the number of the refusal, 0 where the call was taken.
+pub struct Answer {
+    pub chip: Uc8253,
+    pub refused: u8,
+}
+
+// The same for a read, with the byte.
+pub struct ReadAnswer {
+    pub chip: Uc8253,
+    pub refused: u8,
+    pub byte: Read,
+}
+
+// 6, 5, 7 of a call at a time, which may assert reset; 0 where none is met.
+fn turned_back(
+    p: Uc8253,
+    at: u64,
+    asserted: bool,
+    old: &[u8],
+    new: &[u8],
+    states: &[i64],
+    numbers: &[u8],
+    picture: &[u8],
+    rows: &[u64],
+) -> u8
+    ensures { λ r. ⌜ r ≡ tests.turnedBack asserted at (world p (buffers (now (old .entry)) (now (new .entry)) (now (states .entry)) (now (numbers .entry)) (now (picture .entry)) (now (rows .entry)))) ⌝ }
+{
+    if foreign(p) {
+        return 6;
+    }
+    let config = p.config;
+    if lengths_fit(
+        config,
+        old.len(),
+        new.len(),
+        states.len(),
+        numbers.len(),
+        picture.len(),
+        rows.len(),
+    ) {
+        if ends_refresh(p, at, asserted) {
+            return foreign_contents(p.config.optics.full_swing, states, numbers);
+        }
+        return 0;
+    }
+    5
+}
+
+// 7: a state or a table number out of range.
+fn foreign_contents(swing: u64, states: &[i64], numbers: &[u8]) -> u8
+    ensures { λ r. ⌜ r ≡ Rattle.uc8253.specs.Seven.seven swing (now (states .entry)) (now (numbers .entry)) ⌝ }
+{
+    if all_states(states, swing) {
+        if all_numbers(numbers) {
+            return 0;
+        }
+        return 7;
+    }
+    7
+}
+
+// A command byte (D/C# low).
+pub fn write_command(
+    p: Uc8253,
+    at: u64,
+    command: u8,
+    old: &mut [u8],
+    new: &mut [u8],
+    states: &mut [i64],
+    numbers: &mut [u8],
+    picture: &mut [u8],
+    rows: &mut [u64],
+) -> Answer
+    ensures { λ r. ⌜ world (r .chip) (buffers (now (old .exit)) (now (new .exit)) (now (states .exit)) (now (numbers .exit)) (now (picture .exit)) (now (rows .exit)))
+        ≡ commandCall at command (world p (buffers (now (old .entry)) (now (new .entry)) (now (states .entry)) (now (numbers .entry)) (now (picture .entry)) (now (rows .entry)))) ⌝ }
+    ensures { λ r. ⌜ r .refused ≡ tests.turnedBack Bool.false at (world p (buffers (now (old .entry)) (now (new .entry)) (now (states .entry)) (now (numbers .entry)) (now (picture .entry)) (now (rows .entry)))) ⌝ }
+{
+    let refused = turned_back(p, at, false, old, new, states, numbers, picture, rows);
+    if refused != 0 {
+        return Answer { chip: p, refused };
+    }
+    let q = arrive(p, at, old, new, states, numbers, picture);
+    let chip = command_byte(q, command, old, new, numbers, rows);
+    Answer { chip, refused: 0 }
+}
+
+// A data byte (D/C# high).
+pub fn write_data(
+    p: Uc8253,
+    at: u64,
+    byte: u8,
+    old: &mut [u8],
+    new: &mut [u8],
+    states: &mut [i64],
+    numbers: &mut [u8],
+    picture: &mut [u8],
+    rows: &mut [u64],
+) -> Answer
+    ensures { λ r. ⌜ world (r .chip) (buffers (now (old .exit)) (now (new .exit)) (now (states .exit)) (now (numbers .exit)) (now (picture .exit)) (now (rows .exit)))
+        ≡ dataCall at byte (world p (buffers (now (old .entry)) (now (new .entry)) (now (states .entry)) (now (numbers .entry)) (now (picture .entry)) (now (rows .entry)))) ⌝ }
+    ensures { λ r. ⌜ r .refused ≡ tests.turnedBack Bool.false at (world p (buffers (now (old .entry)) (now (new .entry)) (now (states .entry)) (now (numbers .entry)) (now (picture .entry)) (now (rows .entry)))) ⌝ }
+{
+    let refused = turned_back(p, at, false, old, new, states, numbers, picture, rows);
+    if refused != 0 {
+        return Answer { chip: p, refused };
+    }
+    let q = arrive(p, at, old, new, states, numbers, picture);
+    let chip = data_byte(q, byte, old, new, rows);
+    Answer { chip, refused: 0 }
+}
+
+// The next byte of a read: what the controller drives, nothing when it drives nothing.
+pub fn read_data(
+    p: Uc8253,
+    at: u64,
+    old: &mut [u8],
+    new: &mut [u8],
+    states: &mut [i64],
+    numbers: &mut [u8],
+    picture: &mut [u8],
+    rows: &mut [u64],
+) -> ReadAnswer
+    ensures { λ r. ⌜ world (r .chip) (buffers (now (old .exit)) (now (new .exit)) (now (states .exit)) (now (numbers .exit)) (now (picture .exit)) (now (rows .exit)))
+        ≡ readCall at (world p (buffers (now (old .entry)) (now (new .entry)) (now (states .entry)) (now (numbers .entry)) (now (picture .entry)) (now (rows .entry)))) ⌝ }
+    ensures { λ r. ⌜ (r .refused ≡ tests.turnedBack Bool.false at (world p (buffers (now (old .entry)) (now (new .entry)) (now (states .entry)) (now (numbers .entry)) (now (picture .entry)) (now (rows .entry)))))
+        × (r .byte ≡ readAnswer at (world p (buffers (now (old .entry)) (now (new .entry)) (now (states .entry)) (now (numbers .entry)) (now (picture .entry)) (now (rows .entry))))) ⌝ }
+{
+    let refused = turned_back(p, at, false, old, new, states, numbers, picture, rows);
+    if refused != 0 {
+        return ReadAnswer {
+            chip: p,
+            refused,
+            byte: Read::Nothing,
+        };
+    }
+    let q = arrive(p, at, old, new, states, numbers, picture);
+    let r = read_byte(q, rows);
+    let chip = r.chip;
+    let byte = r.byte;
+    ReadAnswer {
+        chip,
+        refused: 0,
+        byte,
+    }
+}
+
+// `RST_N` went low (asserted) or was released.
+pub fn set_reset(
+    p: Uc8253,
+    at: u64,
+    asserted: bool,
+    old: &mut [u8],
+    new: &mut [u8],
+    states: &mut [i64],
+    numbers: &mut [u8],
+    picture: &mut [u8],
+    rows: &mut [u64],
+) -> Answer
+    ensures { λ r. ⌜ world (r .chip) (buffers (now (old .exit)) (now (new .exit)) (now (states .exit)) (now (numbers .exit)) (now (picture .exit)) (now (rows .exit)))
+        ≡ resetCall at asserted (world p (buffers (now (old .entry)) (now (new .entry)) (now (states .entry)) (now (numbers .entry)) (now (picture .entry)) (now (rows .entry)))) ⌝ }
+    ensures { λ r. ⌜ r .refused ≡ tests.turnedBack asserted at (world p (buffers (now (old .entry)) (now (new .entry)) (now (states .entry)) (now (numbers .entry)) (now (picture .entry)) (now (rows .entry)))) ⌝ }
+{
+    let refused = turned_back(p, at, asserted, old, new, states, numbers, picture, rows);
+    if refused != 0 {
+        return Answer { chip: p, refused };
+    }
+    let q = arrive(p, at, old, new, states, numbers, picture);
+    let chip = reset_edge(q, asserted, states, numbers, picture, rows);
+    Answer { chip, refused: 0 }
+}
+
+// Brings the chip to a time: an operation whose end has come ends, and a refresh publishes its
+// picture.
+pub fn advance(
+    p: Uc8253,
+    at: u64,
+    old: &mut [u8],
+    new: &mut [u8],
+    states: &mut [i64],
+    numbers: &mut [u8],
+    picture: &mut [u8],
+    rows: &mut [u64],
+) -> Answer
+    ensures { λ r. ⌜ world (r .chip) (buffers (now (old .exit)) (now (new .exit)) (now (states .exit)) (now (numbers .exit)) (now (picture .exit)) (now (rows .exit)))
+        ≡ advanceCall at (world p (buffers (now (old .entry)) (now (new .entry)) (now (states .entry)) (now (numbers .entry)) (now (picture .entry)) (now (rows .entry)))) ⌝ }
+    ensures { λ r. ⌜ r .refused ≡ tests.turnedBack Bool.false at (world p (buffers (now (old .entry)) (now (new .entry)) (now (states .entry)) (now (numbers .entry)) (now (picture .entry)) (now (rows .entry)))) ⌝ }
+{
+    let refused = turned_back(p, at, false, old, new, states, numbers, picture, rows);
+    if refused != 0 {
+        return Answer { chip: p, refused };
+    }
+    let chip = arrive(p, at, old, new, states, numbers, picture);
+    Answer { chip, refused: 0 }
+}

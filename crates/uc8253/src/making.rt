@@ -1,0 +1,236 @@
+// Making a panel.
+ghost use mathlib.Core.Path.{_≡_};
+ghost use Rattle.controller.specs.World.{world, buffers};
+ghost use Rattle.controller.specs.TurnedBack as tests;
+ghost use Rattle.controller.specs.Calls as calls;
+ghost use Rattle.config.specs.Refusal as configs;
+use config::Uc8253Config;
+use config::Uc8253Geometry;
+use config::Uc8253Timing;
+use config::Validity;
+use config::Variant;
+use controller::Current;
+use controller::Mode;
+use controller::Operation;
+use controller::Power;
+use controller::Stage;
+use controller::Uc8253;
+use controller::Work;
+use controller::lengths_fit;
+use crate::Answer;
+use glass::Optics;
+use glass::PanelImage;
+use glass::RefreshKind;
+use glass::level;
+use log::Log;
+use pixels::fill_bytes;
+use pixels::fill_states;
+use pixels::fill_words;
+use registers::Area;
+use registers::Luts;
+use registers::Pair;
+use registers::Registers;
+use waveform::Group;
+use waveform::Levels;
+use waveform::Table;
+use waveform::Waveform;
+
+fn no_waveform() -> Waveform
+    ensures { λ r. ⌜ r ≡ calls.noWaveform ⌝ }
+{
+    let group = Group {
+        codes: [0; 4],
+        frames: [0; 4],
+        repeats: 0,
+    };
+    let groups = [group; 7];
+    let table = Table { groups };
+    let tables = [table; 5];
+    let levels = Levels {
+        vdh: 0,
+        vdl: 0,
+        vdhr: 0,
+    };
+    Waveform {
+        tables,
+        levels,
+        frame_ns: 0,
+    }
+}
+
+// Running, without supplies and without a command, the picture as the glass was.
+fn fresh(config: Uc8253Config, regs: Registers) -> Uc8253
+    ensures { λ r. ⌜ r ≡ Rattle.uc8253.specs.Making.fresh config regs ⌝ }
+{
+    let panel = config.panel;
+    let mode = Mode {
+        power: Power::Running,
+        powered: false,
+        data_flag: false,
+    };
+    let stage = Stage {
+        current: Current::Idle,
+    };
+    let operation = Operation {
+        work: Work::Nothing,
+        started: 0,
+        until: 0,
+    };
+    let image = PanelImage {
+        width: panel.sources,
+        height: panel.gates,
+        generation: 0,
+        kind: RefreshKind::PowerOn,
+        interrupted: false,
+        started: 0,
+        at: 0,
+    };
+    let log = Log {
+        stored: 0,
+        dropped: 0,
+    };
+    let luts = Luts::reset();
+    let waveform = no_waveform();
+    Uc8253 {
+        config,
+        regs,
+        luts,
+        mode,
+        stage,
+        operation,
+        waveform,
+        image,
+        log,
+        now: 0,
+    }
+}
+
+fn no_config() -> Uc8253Config
+    ensures { λ r. ⌜ r ≡ calls.zeros .config ⌝ }
+{
+    let panel = Uc8253Geometry {
+        sources: 0,
+        gates: 0,
+        rows_reversed: false,
+        columns_reversed: false,
+    };
+    let optics = Optics {
+        full_swing: 0,
+        positive_drives_black: false,
+        initial_gray: 0,
+    };
+    let timing = Uc8253Timing {
+        power_on: 0,
+        power_off: 0,
+        deep_sleep: 0,
+        soft_reset: 0,
+        hardware_reset: 0,
+        frame_period: [0; 32],
+    };
+    Uc8253Config {
+        variant: Variant::Uc8253,
+        panel,
+        optics,
+        timing,
+        ambient_celsius: 0,
+    }
+}
+
+// A record of zeros.
+fn zeros() -> Uc8253
+    ensures { λ r. ⌜ r ≡ calls.zeros ⌝ }
+{
+    let resolution = Pair { h: 0, v: 0 };
+    let start = Pair { h: 0, v: 0 };
+    let window = Area {
+        x0: 0,
+        y0: 0,
+        x1: 0,
+        y1: 0,
+    };
+    let regs = Registers {
+        psr: [0; 2],
+        power: [0; 5],
+        pll: 0,
+        cdi: [0; 2],
+        resolution,
+        start,
+        window,
+        partial: false,
+    };
+    fresh(no_config(), regs)
+}
+
+fn number_of(v: Validity) -> u8
+    ensures { λ r. ⌜ r ≡ configs.number v ⌝ }
+{
+    match v {
+        Validity::Valid => 0,
+        Validity::EmptyPanel => 1,
+        Validity::PanelTooLarge => 2,
+        Validity::FullSwing => 3,
+        Validity::FramePeriod => 4,
+    }
+}
+
+// 1 to 4, then 5.
+fn making_refused(
+    config: Uc8253Config,
+    old: &[u8],
+    new: &[u8],
+    states: &[i64],
+    numbers: &[u8],
+    picture: &[u8],
+    rows: &[u64],
+) -> u8
+    ensures { λ r. ⌜ r ≡ tests.makingRefused config (buffers (now (old .entry)) (now (new .entry)) (now (states .entry)) (now (numbers .entry)) (now (picture .entry)) (now (rows .entry))) ⌝ }
+{
+    let no = number_of(config.validate());
+    if no != 0 {
+        return no;
+    }
+    if lengths_fit(
+        config,
+        old.len(),
+        new.len(),
+        states.len(),
+        numbers.len(),
+        picture.len(),
+        rows.len(),
+    ) {
+        return 0;
+    }
+    5
+}
+
+// The chip at power-on under a configuration, with what it is lent; the zeros where it is refused.
+pub fn power_on(
+    config: Uc8253Config,
+    old: &mut [u8],
+    new: &mut [u8],
+    states: &mut [i64],
+    numbers: &mut [u8],
+    picture: &mut [u8],
+    rows: &mut [u64],
+) -> Answer
+    ensures { λ r. ⌜ world (r .chip) (buffers (now (old .exit)) (now (new .exit)) (now (states .exit)) (now (numbers .exit)) (now (picture .exit)) (now (rows .exit)))
+        ≡ calls.made config (buffers (now (old .entry)) (now (new .entry)) (now (states .entry)) (now (numbers .entry)) (now (picture .entry)) (now (rows .entry))) ⌝ }
+    ensures { λ r. ⌜ r .refused ≡ tests.makingRefused config (buffers (now (old .entry)) (now (new .entry)) (now (states .entry)) (now (numbers .entry)) (now (picture .entry)) (now (rows .entry))) ⌝ }
+{
+    let refused = making_refused(config, old, new, states, numbers, picture, rows);
+    if refused != 0 {
+        let chip = zeros();
+        return Answer { chip, refused };
+    }
+    let optics = config.optics;
+    let gray = optics.initial_gray;
+    fill_bytes(old, 0);
+    fill_bytes(new, 0);
+    fill_states(states, level(gray, optics.full_swing));
+    fill_bytes(numbers, 0);
+    fill_bytes(picture, gray);
+    fill_words(rows);
+    let variant = config.variant;
+    let chip = fresh(config, Registers::reset(variant));
+    Answer { chip, refused: 0 }
+}

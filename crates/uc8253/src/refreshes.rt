@@ -1,0 +1,207 @@
+// A refresh: its start, and its end on the glass.
+ghost use mathlib.Core.Path.{_≡_};
+ghost use mathlib.Core.Bool.{true};
+ghost use Prim.Native.Nat.{_≤_};
+ghost use mathlib.Core.List.{List};
+ghost use Prim.Native.Nat.{ℕ};
+ghost use lib.ListN.{take};
+ghost use lib.IntN.{ℤ};
+ghost use Rattle.waveform.specs.Frames.{framesOf};
+ghost use Rattle.pixels.specs.States.{most, everyState};
+ghost use Rattle.controller.specs.World.{Buffers, world, buffers, withRows, withNumbers, withImage};
+ghost use Rattle.controller.specs.Refresh as refresh;
+use base::saturating_add;
+use controller::Note;
+use controller::Operation;
+use controller::Refresh;
+use controller::Uc8253;
+use controller::Work;
+use controller::refresh_note;
+use crate::telling::tell;
+use glass::Optics;
+use glass::PanelImage;
+use glass::RefreshKind;
+use numbers::Pixels;
+use numbers::numbers;
+use numbers::some_undriven;
+use pixels::draw;
+use pixels::drive;
+use ram::copy_new_to_old;
+use waveform::Levels;
+use waveform::Waveform;
+use waveform::whole_frames;
+
+// The codes of the frame rate.
+const FRAME_RATES: u8 = 32;
+
+// The waveform that the registers give.
+fn waveform_now(p: Uc8253) -> Waveform
+    ensures { λ r. ⌜ r ≡ refresh.waveformNow p ⌝ }
+{
+    let config = p.config;
+    let timing = config.timing;
+    let periods = timing.frame_period;
+    let regs = p.regs;
+    let levels = Levels::from_power_setting(regs.power);
+    let luts = p.luts;
+    Waveform::new(luts.bytes(), levels, periods[(regs.pll % FRAME_RATES) as usize])
+}
+
+fn kind_by(numbers: &[u8]) -> RefreshKind
+    ensures { λ r. ⌜ r ≡ refresh.kindBy (now (numbers .entry)) ⌝ }
+{
+    if some_undriven(numbers) {
+        return RefreshKind::Partial;
+    }
+    RefreshKind::Full
+}
+
+// The refresh starts: each pixel gets the table of its transition.
+fn start_refresh(p: Uc8253, old: &[u8], new: &[u8], table_numbers: &mut [u8]) -> Uc8253
+    ensures { λ r. ⌜ ((states : List ℤ) (picture rows : List ℕ) → world r (buffers (now (old .entry)) (now (new .entry)) states (now («table_numbers» .exit)) picture rows)
+        ≡ refresh.refreshStarted (world p (buffers (now (old .entry)) (now (new .entry)) states (now («table_numbers» .entry)) picture rows))) ⌝ }
+{
+    let waveform = waveform_now(p);
+    let config = p.config;
+    let panel = config.panel;
+    let variant = config.variant;
+    let regs = p.regs;
+    let area = regs.written();
+    let pixels = Pixels::of(panel, regs, variant);
+    numbers(table_numbers, old, new, pixels);
+    let kind = kind_by(table_numbers);
+    let refresh = Refresh { area, kind };
+    let operation = Operation {
+        work: Work::Refresh(refresh),
+        started: p.now,
+        until: saturating_add(p.now, waveform.duration_ns()),
+    };
+    let mut q = p;
+    q.waveform = waveform;
+    q.operation = operation;
+    q
+}
+
+// `DRF`: the refresh starts, or is refused.
+pub(crate) fn refresh(
+    p: Uc8253,
+    old: &[u8],
+    new: &[u8],
+    table_numbers: &mut [u8],
+    rows: &mut [u64],
+) -> Uc8253
+    ensures { λ r. ⌜ ((states : List ℤ) (picture : List ℕ) → world r (buffers (now (old .entry)) (now (new .entry)) states (now («table_numbers» .exit)) picture (now (rows .exit)))
+        ≡ refresh.refreshed (world p (buffers (now (old .entry)) (now (new .entry)) states (now («table_numbers» .entry)) picture (now (rows .entry))))) ⌝ }
+{
+    let regs = p.regs;
+    let psr = regs.psr;
+    let note = refresh_note(psr[0], p.mode.powered);
+    match note {
+        Note::Quiet => start_refresh(p, old, new, table_numbers),
+        Note::Told(kind) => tell(p, rows, kind),
+    }
+}
+
+// Every state walks all frames of its table.
+fn drive_whole(waveform: Waveform, optics: Optics, states: &mut [i64], numbers: &[u8])
+    requires { ⌜ (optics .«full_swing» ≤ most) × (everyState (optics .«full_swing») (now states) ≡ true) ⌝ }
+    ensures { λ _. ⌜ now (states .exit) ≡ refresh.walked (optics .«full_swing») (framesOf waveform (optics .«positive_drives_black»)) (now (numbers .entry)) (now (states .entry)) ⌝ }
+{
+    let swing = optics.full_swing;
+    let black = optics.positive_drives_black;
+    let ww = waveform.transfer(1, swing, black);
+    let kw = waveform.transfer(2, swing, black);
+    let wk = waveform.transfer(3, swing, black);
+    let kk = waveform.transfer(4, swing, black);
+    drive(states, numbers, ww, kw, wk, kk);
+}
+
+// Every state walks the first frames of its table.
+fn drive_first(waveform: Waveform, optics: Optics, n: u64, states: &mut [i64], numbers: &[u8])
+    requires { ⌜ (optics .«full_swing» ≤ most) × (everyState (optics .«full_swing») (now states) ≡ true) ⌝ }
+    ensures { λ _. ⌜ now (states .exit) ≡ refresh.walked (optics .«full_swing») (λ (k : ℕ). take n (framesOf waveform (optics .«positive_drives_black») k)) (now (numbers .entry)) (now (states .entry)) ⌝ }
+{
+    let swing = optics.full_swing;
+    let black = optics.positive_drives_black;
+    let ww = waveform.transfer_first(1, swing, black, n);
+    let kw = waveform.transfer_first(2, swing, black, n);
+    let wk = waveform.transfer_first(3, swing, black, n);
+    let kk = waveform.transfer_first(4, swing, black, n);
+    drive(states, numbers, ww, kw, wk, kk);
+}
+
+// The head of the next picture.
+fn publish(p: Uc8253, kind: RefreshKind, interrupted: bool, at: u64) -> Uc8253
+    ensures { λ r. ⌜ r ≡ withImage (refresh.published kind interrupted at p) p ⌝ }
+{
+    let image = PanelImage {
+        width: p.config.panel.sources,
+        height: p.config.panel.gates,
+        generation: saturating_add(p.image.generation, 1),
+        kind,
+        interrupted,
+        started: p.operation.started,
+        at,
+    };
+    let mut q = p;
+    q.image = image;
+    q
+}
+
+fn copy_after(p: Uc8253, area: registers::Area, old: &mut [u8], new: &[u8])
+    ensures { λ _. ⌜ now (old .exit) ≡ Rattle.uc8253.specs.Copying.copiedIf p area (now (old .entry)) (now (new .entry)) ⌝ }
+{
+    let config = p.config;
+    let variant = config.variant;
+    let regs = p.regs;
+    if regs.copies_new_to_old(variant) {
+        copy_new_to_old(old, new, area);
+    }
+}
+
+// A refresh ends by itself: all frames, dated by its own end; then new may be copied to old.
+pub(crate) fn finish_whole(
+    p: Uc8253,
+    refresh: Refresh,
+    old: &mut [u8],
+    new: &[u8],
+    states: &mut [i64],
+    numbers: &[u8],
+    picture: &mut [u8],
+) -> Uc8253
+    requires { ⌜ (p .config .optics .«full_swing» ≤ most) × (everyState (p .config .optics .«full_swing») (now states) ≡ true) ⌝ }
+    ensures { λ r. ⌜ ((rows : List ℕ) → world r (buffers (now (old .exit)) (now (new .entry)) (now (states .exit)) (now (numbers .entry)) (now (picture .exit)) rows)
+        ≡ Rattle.controller.specs.Refresh.endedRefresh refresh (world p (buffers (now (old .entry)) (now (new .entry)) (now (states .entry)) (now (numbers .entry)) (now (picture .entry)) rows))) ⌝ }
+{
+    let config = p.config;
+    let optics = config.optics;
+    let waveform = p.waveform;
+    drive_whole(waveform, optics, states, numbers);
+    draw(picture, states, optics.full_swing);
+    let kind = refresh.kind;
+    let area = refresh.area;
+    copy_after(p, area, old, new);
+    publish(p, kind, false, p.operation.until)
+}
+
+// Reset cuts a refresh: the whole frames elapsed, dated by the clock.
+pub(crate) fn finish_cut(
+    p: Uc8253,
+    refresh: Refresh,
+    states: &mut [i64],
+    numbers: &[u8],
+    picture: &mut [u8],
+) -> Uc8253
+    requires { ⌜ (p .config .optics .«full_swing» ≤ most) × (everyState (p .config .optics .«full_swing») (now states) ≡ true) ⌝ }
+    ensures { λ r. ⌜ ((old new rows : List ℕ) → world r (buffers old new (now (states .exit)) (now (numbers .entry)) (now (picture .exit)) rows)
+        ≡ Rattle.controller.specs.Refresh.cutRefresh refresh (world p (buffers old new (now (states .entry)) (now (numbers .entry)) (now (picture .entry)) rows))) ⌝ }
+{
+    let config = p.config;
+    let optics = config.optics;
+    let waveform = p.waveform;
+    let n = whole_frames(p.now, p.operation.started, p.waveform.frame_ns);
+    drive_first(waveform, optics, n, states, numbers);
+    draw(picture, states, optics.full_swing);
+    let kind = refresh.kind;
+    publish(p, kind, true, p.now)
+}

@@ -1,0 +1,71 @@
+// The small changes of the record that every call makes: a diagnostic, the command under way, an
+// operation begun or over.
+ghost use mathlib.Core.Path.{_≡_};
+ghost use Rattle.controller.specs.World.{Buffers, world, withRows, withCurrent, withOperation, tell as tellOf, told as toldOf};
+ghost use Rattle.controller.specs.Arrives as arrives;
+use base::saturating_add;
+use controller::Current;
+use controller::Note;
+use controller::Operation;
+use controller::Stage;
+use controller::Uc8253;
+use controller::Work;
+use diagnostic::DiagnosticKind;
+use log::report;
+
+// A diagnostic, dated by the clock.
+pub(crate) fn tell(p: Uc8253, rows: &mut [u64], kind: DiagnosticKind) -> Uc8253
+    ensures { λ r. ⌜ ((b : Buffers) → world r (withRows (now (rows .exit)) b) ≡ tellOf kind (world p (withRows (now (rows .entry)) b))) ⌝ }
+{
+    let log = p.log;
+    let mut q = p;
+    q.log = report(log, rows, p.now, kind);
+    q
+}
+
+// A diagnostic, if there is one.
+pub(crate) fn told(p: Uc8253, rows: &mut [u64], note: Note) -> Uc8253
+    ensures { λ r. ⌜ ((b : Buffers) → world r (withRows (now (rows .exit)) b) ≡ toldOf note (world p (withRows (now (rows .entry)) b))) ⌝ }
+{
+    match note {
+        Note::Quiet => p,
+        Note::Told(kind) => tell(p, rows, kind),
+    }
+}
+
+pub(crate) fn with_current(p: Uc8253, current: Current) -> Uc8253
+    ensures { λ r. ⌜ r ≡ withCurrent current p ⌝ }
+{
+    let stage = Stage { current };
+    let mut q = p;
+    q.stage = stage;
+    q
+}
+
+// Nothing runs any more.
+pub(crate) fn rested(p: Uc8253) -> Uc8253
+    ensures { λ r. ⌜ r ≡ withOperation arrives.rest p ⌝ }
+{
+    let operation = Operation {
+        work: Work::Nothing,
+        started: 0,
+        until: 0,
+    };
+    let mut q = p;
+    q.operation = operation;
+    q
+}
+
+// An operation from the clock on.
+pub(crate) fn start(p: Uc8253, work: Work, ns: u64) -> Uc8253
+    ensures { λ r. ⌜ r ≡ arrives.starting work ns p ⌝ }
+{
+    let operation = Operation {
+        work,
+        started: p.now,
+        until: saturating_add(p.now, ns),
+    };
+    let mut q = p;
+    q.operation = operation;
+    q
+}
