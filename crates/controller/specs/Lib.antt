@@ -6,4 +6,5 @@ pub mod Reading
 pub mod Refresh
 pub mod TurnedBack
 pub mod Reset
+pub mod Sound
 pub mod Calls

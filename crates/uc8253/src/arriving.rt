@@ -1,10 +1,11 @@
 // A call arrives: the clock, and the end of what runs.
 ghost use mathlib.Core.Path.{_≡_};
+ghost use Rattle.uc8253.specs.Steps as steps;
 ghost use mathlib.Core.Bool.{true, false};
 ghost use mathlib.Core.List.{List};
 ghost use Prim.Native.Nat.{ℕ, _≤_};
 ghost use Rattle.pixels.specs.States.{most, everyState};
-ghost use Rattle.controller.specs.World.{buffers, world};
+ghost use Rattle.controller.specs.World.{buffers, world, withOperation, withPowered};
 ghost use Rattle.controller.specs.TurnedBack.{refreshRuns, endsRefresh};
 ghost use Rattle.controller.specs.Arrives as arrives;
 use base::greatest;
@@ -16,7 +17,7 @@ use crate::refreshes::finish_whole;
 use crate::telling::rested;
 
 fn powered(p: Uc8253, on: bool) -> Uc8253
-    ensures { λ r. ⌜ r ≡ Rattle.controller.specs.World.withOperation arrives.rest (Rattle.controller.specs.World.withPowered on p) ⌝ }
+    ensures { λ r. ⌜ r ≡ withOperation arrives.rest (withPowered on p) ⌝ }
 {
     let mut q = p;
     q.mode.powered = on;
@@ -24,7 +25,7 @@ fn powered(p: Uc8253, on: bool) -> Uc8253
 }
 
 fn fall_asleep(p: Uc8253) -> Uc8253
-    ensures { λ r. ⌜ r ≡ Rattle.uc8253.specs.Copying.fallenAsleep p ⌝ }
+    ensures { λ r. ⌜ r ≡ steps.fallenAsleep p ⌝ }
 {
     let mode = Mode {
         power: Power::Asleep,

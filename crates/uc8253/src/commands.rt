@@ -1,5 +1,6 @@
 // A command byte.
 ghost use mathlib.Core.Path.{_≡_};
+ghost use Rattle.uc8253.specs.Steps as steps;
 ghost use mathlib.Core.List.{List};
 ghost use Prim.Native.Nat.{ℕ};
 ghost use lib.IntN.{ℤ};
@@ -125,7 +126,7 @@ fn accept(
     rows: &mut [u64],
 ) -> Uc8253
     ensures { λ r. ⌜ ((states : List ℤ) (picture : List ℕ) → world r (buffers (now (old .entry)) (now (new .entry)) states (now («table_numbers» .exit)) picture (now (rows .exit)))
-        ≡ Rattle.uc8253.specs.Copying.accepted command (world p (buffers (now (old .entry)) (now (new .entry)) states (now («table_numbers» .entry)) picture (now (rows .entry))))) ⌝ }
+        ≡ steps.accepted command (world p (buffers (now (old .entry)) (now (new .entry)) states (now («table_numbers» .entry)) picture (now (rows .entry))))) ⌝ }
 {
     let config = p.config;
     let variant = config.variant;

@@ -62,7 +62,8 @@ fn past_window(p: Uc8253, a: Active, rows: &mut [u64]) -> Uc8253
 
 // A pixel byte: eight pixels at the cursor, which goes on.
 fn pixel_byte(p: Uc8253, a: Active, byte: u8, plane: &mut [u8], rows: &mut [u64]) -> Uc8253
-    ensures { λ r. ⌜ Rattle.uc8253.specs.Copying.Pixel p a byte r (now (plane .entry)) (now (rows .entry)) (now (plane .exit)) (now (rows .exit)) ⌝ }
+    ensures { λ r. ⌜ ((b : Buffers) → world r (withRows (now (rows .exit)) (withOld (now (plane .exit)) b)) ≡ rule.olderByte a byte (world p (withRows (now (rows .entry)) (withOld (now (plane .entry)) b))))
+        × ((b : Buffers) → world r (withRows (now (rows .exit)) (withNew (now (plane .exit)) b)) ≡ rule.newerByte a byte (world p (withRows (now (rows .entry)) (withNew (now (plane .entry)) b)))) ⌝ }
 {
     let regs = p.regs;
     let area = regs.written();

@@ -26,6 +26,8 @@ pub use questions::row_refused;
 pub use questions::take_diagnostics;
 pub use questions::Taken;
 ghost use mathlib.Core.Path.{_≡_};
+ghost use mathlib.Core.Bool.{false};
+ghost use Rattle.uc8253.specs.Steps as steps;
 ghost use Rattle.controller.specs.World.{buffers, world};
 ghost use Rattle.controller.specs.TurnedBack as tests;
 ghost use Rattle.controller.specs.Calls.{commandCall, dataCall, readCall, readAnswer, resetCall, advanceCall};
@@ -92,7 +94,7 @@ fn turned_back(
 
 // 7: a state or a table number out of range.
 fn foreign_contents(swing: u64, states: &[i64], numbers: &[u8]) -> u8
-    ensures { λ r. ⌜ r ≡ Rattle.uc8253.specs.Seven.seven swing (now (states .entry)) (now (numbers .entry)) ⌝ }
+    ensures { λ r. ⌜ r ≡ steps.seven swing (now (states .entry)) (now (numbers .entry)) ⌝ }
 {
     if all_states(states, swing) {
         if all_numbers(numbers) {
@@ -117,7 +119,7 @@ pub fn write_command(
 ) -> Answer
     ensures { λ r. ⌜ world (r .chip) (buffers (now (old .exit)) (now (new .exit)) (now (states .exit)) (now (numbers .exit)) (now (picture .exit)) (now (rows .exit)))
         ≡ commandCall at command (world p (buffers (now (old .entry)) (now (new .entry)) (now (states .entry)) (now (numbers .entry)) (now (picture .entry)) (now (rows .entry)))) ⌝ }
-    ensures { λ r. ⌜ r .refused ≡ tests.turnedBack Bool.false at (world p (buffers (now (old .entry)) (now (new .entry)) (now (states .entry)) (now (numbers .entry)) (now (picture .entry)) (now (rows .entry)))) ⌝ }
+    ensures { λ r. ⌜ r .refused ≡ tests.turnedBack false at (world p (buffers (now (old .entry)) (now (new .entry)) (now (states .entry)) (now (numbers .entry)) (now (picture .entry)) (now (rows .entry)))) ⌝ }
 {
     let refused = turned_back(p, at, false, old, new, states, numbers, picture, rows);
     if refused != 0 {
@@ -142,7 +144,7 @@ pub fn write_data(
 ) -> Answer
     ensures { λ r. ⌜ world (r .chip) (buffers (now (old .exit)) (now (new .exit)) (now (states .exit)) (now (numbers .exit)) (now (picture .exit)) (now (rows .exit)))
         ≡ dataCall at byte (world p (buffers (now (old .entry)) (now (new .entry)) (now (states .entry)) (now (numbers .entry)) (now (picture .entry)) (now (rows .entry)))) ⌝ }
-    ensures { λ r. ⌜ r .refused ≡ tests.turnedBack Bool.false at (world p (buffers (now (old .entry)) (now (new .entry)) (now (states .entry)) (now (numbers .entry)) (now (picture .entry)) (now (rows .entry)))) ⌝ }
+    ensures { λ r. ⌜ r .refused ≡ tests.turnedBack false at (world p (buffers (now (old .entry)) (now (new .entry)) (now (states .entry)) (now (numbers .entry)) (now (picture .entry)) (now (rows .entry)))) ⌝ }
 {
     let refused = turned_back(p, at, false, old, new, states, numbers, picture, rows);
     if refused != 0 {
@@ -166,7 +168,7 @@ pub fn read_data(
 ) -> ReadAnswer
     ensures { λ r. ⌜ world (r .chip) (buffers (now (old .exit)) (now (new .exit)) (now (states .exit)) (now (numbers .exit)) (now (picture .exit)) (now (rows .exit)))
         ≡ readCall at (world p (buffers (now (old .entry)) (now (new .entry)) (now (states .entry)) (now (numbers .entry)) (now (picture .entry)) (now (rows .entry)))) ⌝ }
-    ensures { λ r. ⌜ (r .refused ≡ tests.turnedBack Bool.false at (world p (buffers (now (old .entry)) (now (new .entry)) (now (states .entry)) (now (numbers .entry)) (now (picture .entry)) (now (rows .entry)))))
+    ensures { λ r. ⌜ (r .refused ≡ tests.turnedBack false at (world p (buffers (now (old .entry)) (now (new .entry)) (now (states .entry)) (now (numbers .entry)) (now (picture .entry)) (now (rows .entry)))))
         × (r .byte ≡ readAnswer at (world p (buffers (now (old .entry)) (now (new .entry)) (now (states .entry)) (now (numbers .entry)) (now (picture .entry)) (now (rows .entry))))) ⌝ }
 {
     let refused = turned_back(p, at, false, old, new, states, numbers, picture, rows);
@@ -227,7 +229,7 @@ pub fn advance(
 ) -> Answer
     ensures { λ r. ⌜ world (r .chip) (buffers (now (old .exit)) (now (new .exit)) (now (states .exit)) (now (numbers .exit)) (now (picture .exit)) (now (rows .exit)))
         ≡ advanceCall at (world p (buffers (now (old .entry)) (now (new .entry)) (now (states .entry)) (now (numbers .entry)) (now (picture .entry)) (now (rows .entry)))) ⌝ }
-    ensures { λ r. ⌜ r .refused ≡ tests.turnedBack Bool.false at (world p (buffers (now (old .entry)) (now (new .entry)) (now (states .entry)) (now (numbers .entry)) (now (picture .entry)) (now (rows .entry)))) ⌝ }
+    ensures { λ r. ⌜ r .refused ≡ tests.turnedBack false at (world p (buffers (now (old .entry)) (now (new .entry)) (now (states .entry)) (now (numbers .entry)) (now (picture .entry)) (now (rows .entry)))) ⌝ }
 {
     let refused = turned_back(p, at, false, old, new, states, numbers, picture, rows);
     if refused != 0 {

@@ -1,5 +1,6 @@
 // Making a panel.
 ghost use mathlib.Core.Path.{_≡_};
+ghost use Rattle.uc8253.specs.Steps as steps;
 ghost use Rattle.controller.specs.World.{world, buffers};
 ghost use Rattle.controller.specs.TurnedBack as tests;
 ghost use Rattle.controller.specs.Calls as calls;
@@ -60,7 +61,7 @@ fn no_waveform() -> Waveform
 
 // Running, without supplies and without a command, the picture as the glass was.
 fn fresh(config: Uc8253Config, regs: Registers) -> Uc8253
-    ensures { λ r. ⌜ r ≡ Rattle.uc8253.specs.Making.fresh config regs ⌝ }
+    ensures { λ r. ⌜ r ≡ steps.fresh config regs ⌝ }
 {
     let panel = config.panel;
     let mode = Mode {

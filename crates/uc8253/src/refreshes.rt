@@ -1,5 +1,6 @@
 // A refresh: its start, and its end on the glass.
 ghost use mathlib.Core.Path.{_≡_};
+ghost use Rattle.uc8253.specs.Steps as steps;
 ghost use mathlib.Core.Bool.{true};
 ghost use Prim.Native.Nat.{_≤_};
 ghost use mathlib.Core.List.{List};
@@ -9,7 +10,7 @@ ghost use lib.IntN.{ℤ};
 ghost use Rattle.waveform.specs.Frames.{framesOf};
 ghost use Rattle.pixels.specs.States.{most, everyState};
 ghost use Rattle.controller.specs.World.{Buffers, world, buffers, withRows, withNumbers, withImage};
-ghost use Rattle.controller.specs.Refresh as refresh;
+ghost use Rattle.controller.specs.Refresh as rule;
 use base::saturating_add;
 use controller::Note;
 use controller::Operation;
@@ -27,6 +28,7 @@ use numbers::some_undriven;
 use pixels::draw;
 use pixels::drive;
 use ram::copy_new_to_old;
+use registers::Area;
 use waveform::Levels;
 use waveform::Waveform;
 use waveform::whole_frames;
@@ -36,19 +38,20 @@ const FRAME_RATES: u8 = 32;
 
 // The waveform that the registers give.
 fn waveform_now(p: Uc8253) -> Waveform
-    ensures { λ r. ⌜ r ≡ refresh.waveformNow p ⌝ }
+    ensures { λ r. ⌜ r ≡ rule.waveformNow p ⌝ }
 {
     let config = p.config;
     let timing = config.timing;
     let periods = timing.frame_period;
     let regs = p.regs;
-    let levels = Levels::from_power_setting(regs.power);
+    let power = regs.power;
+    let levels = Levels::from_power_setting(power);
     let luts = p.luts;
     Waveform::new(luts.bytes(), levels, periods[(regs.pll % FRAME_RATES) as usize])
 }
 
 fn kind_by(numbers: &[u8]) -> RefreshKind
-    ensures { λ r. ⌜ r ≡ refresh.kindBy (now (numbers .entry)) ⌝ }
+    ensures { λ r. ⌜ r ≡ rule.kindBy (now (numbers .entry)) ⌝ }
 {
     if some_undriven(numbers) {
         return RefreshKind::Partial;
@@ -59,7 +62,7 @@ fn kind_by(numbers: &[u8]) -> RefreshKind
 // The refresh starts: each pixel gets the table of its transition.
 fn start_refresh(p: Uc8253, old: &[u8], new: &[u8], table_numbers: &mut [u8]) -> Uc8253
     ensures { λ r. ⌜ ((states : List ℤ) (picture rows : List ℕ) → world r (buffers (now (old .entry)) (now (new .entry)) states (now («table_numbers» .exit)) picture rows)
-        ≡ refresh.refreshStarted (world p (buffers (now (old .entry)) (now (new .entry)) states (now («table_numbers» .entry)) picture rows))) ⌝ }
+        ≡ rule.refreshStarted (world p (buffers (now (old .entry)) (now (new .entry)) states (now («table_numbers» .entry)) picture rows))) ⌝ }
 {
     let waveform = waveform_now(p);
     let config = p.config;
@@ -91,7 +94,7 @@ pub(crate) fn refresh(
     rows: &mut [u64],
 ) -> Uc8253
     ensures { λ r. ⌜ ((states : List ℤ) (picture : List ℕ) → world r (buffers (now (old .entry)) (now (new .entry)) states (now («table_numbers» .exit)) picture (now (rows .exit)))
-        ≡ refresh.refreshed (world p (buffers (now (old .entry)) (now (new .entry)) states (now («table_numbers» .entry)) picture (now (rows .entry))))) ⌝ }
+        ≡ rule.refreshed (world p (buffers (now (old .entry)) (now (new .entry)) states (now («table_numbers» .entry)) picture (now (rows .entry))))) ⌝ }
 {
     let regs = p.regs;
     let psr = regs.psr;
@@ -105,7 +108,7 @@ pub(crate) fn refresh(
 // Every state walks all frames of its table.
 fn drive_whole(waveform: Waveform, optics: Optics, states: &mut [i64], numbers: &[u8])
     requires { ⌜ (optics .«full_swing» ≤ most) × (everyState (optics .«full_swing») (now states) ≡ true) ⌝ }
-    ensures { λ _. ⌜ now (states .exit) ≡ refresh.walked (optics .«full_swing») (framesOf waveform (optics .«positive_drives_black»)) (now (numbers .entry)) (now (states .entry)) ⌝ }
+    ensures { λ _. ⌜ now (states .exit) ≡ rule.walked (optics .«full_swing») (framesOf waveform (optics .«positive_drives_black»)) (now (numbers .entry)) (now (states .entry)) ⌝ }
 {
     let swing = optics.full_swing;
     let black = optics.positive_drives_black;
@@ -119,7 +122,7 @@ fn drive_whole(waveform: Waveform, optics: Optics, states: &mut [i64], numbers: 
 // Every state walks the first frames of its table.
 fn drive_first(waveform: Waveform, optics: Optics, n: u64, states: &mut [i64], numbers: &[u8])
     requires { ⌜ (optics .«full_swing» ≤ most) × (everyState (optics .«full_swing») (now states) ≡ true) ⌝ }
-    ensures { λ _. ⌜ now (states .exit) ≡ refresh.walked (optics .«full_swing») (λ (k : ℕ). take n (framesOf waveform (optics .«positive_drives_black») k)) (now (numbers .entry)) (now (states .entry)) ⌝ }
+    ensures { λ _. ⌜ now (states .exit) ≡ rule.walked (optics .«full_swing») (λ (k : ℕ). take n (framesOf waveform (optics .«positive_drives_black») k)) (now (numbers .entry)) (now (states .entry)) ⌝ }
 {
     let swing = optics.full_swing;
     let black = optics.positive_drives_black;
@@ -132,7 +135,7 @@ fn drive_first(waveform: Waveform, optics: Optics, n: u64, states: &mut [i64], n
 
 // The head of the next picture.
 fn publish(p: Uc8253, kind: RefreshKind, interrupted: bool, at: u64) -> Uc8253
-    ensures { λ r. ⌜ r ≡ withImage (refresh.published kind interrupted at p) p ⌝ }
+    ensures { λ r. ⌜ r ≡ withImage (rule.published kind interrupted at p) p ⌝ }
 {
     let image = PanelImage {
         width: p.config.panel.sources,
@@ -148,8 +151,8 @@ fn publish(p: Uc8253, kind: RefreshKind, interrupted: bool, at: u64) -> Uc8253
     q
 }
 
-fn copy_after(p: Uc8253, area: registers::Area, old: &mut [u8], new: &[u8])
-    ensures { λ _. ⌜ now (old .exit) ≡ Rattle.uc8253.specs.Copying.copiedIf p area (now (old .entry)) (now (new .entry)) ⌝ }
+fn copy_after(p: Uc8253, area: Area, old: &mut [u8], new: &[u8])
+    ensures { λ _. ⌜ now (old .exit) ≡ steps.copiedIf p area (now (old .entry)) (now (new .entry)) ⌝ }
 {
     let config = p.config;
     let variant = config.variant;
@@ -171,7 +174,7 @@ pub(crate) fn finish_whole(
 ) -> Uc8253
     requires { ⌜ (p .config .optics .«full_swing» ≤ most) × (everyState (p .config .optics .«full_swing») (now states) ≡ true) ⌝ }
     ensures { λ r. ⌜ ((rows : List ℕ) → world r (buffers (now (old .exit)) (now (new .entry)) (now (states .exit)) (now (numbers .entry)) (now (picture .exit)) rows)
-        ≡ Rattle.controller.specs.Refresh.endedRefresh refresh (world p (buffers (now (old .entry)) (now (new .entry)) (now (states .entry)) (now (numbers .entry)) (now (picture .entry)) rows))) ⌝ }
+        ≡ rule.endedRefresh refresh (world p (buffers (now (old .entry)) (now (new .entry)) (now (states .entry)) (now (numbers .entry)) (now (picture .entry)) rows))) ⌝ }
 {
     let config = p.config;
     let optics = config.optics;
@@ -194,7 +197,7 @@ pub(crate) fn finish_cut(
 ) -> Uc8253
     requires { ⌜ (p .config .optics .«full_swing» ≤ most) × (everyState (p .config .optics .«full_swing») (now states) ≡ true) ⌝ }
     ensures { λ r. ⌜ ((old new rows : List ℕ) → world r (buffers old new (now (states .exit)) (now (numbers .entry)) (now (picture .exit)) rows)
-        ≡ Rattle.controller.specs.Refresh.cutRefresh refresh (world p (buffers old new (now (states .entry)) (now (numbers .entry)) (now (picture .entry)) rows))) ⌝ }
+        ≡ rule.cutRefresh refresh (world p (buffers old new (now (states .entry)) (now (numbers .entry)) (now (picture .entry)) rows))) ⌝ }
 {
     let config = p.config;
     let optics = config.optics;

@@ -1,5 +1,6 @@
 // The reset line.
 ghost use mathlib.Core.Path.{_≡_};
+ghost use Rattle.uc8253.specs.Steps as steps;
 ghost use mathlib.Core.Bool.{true};
 ghost use mathlib.Core.List.{List};
 ghost use Prim.Native.Nat.{ℕ, _≤_};
@@ -88,7 +89,7 @@ fn fall(
 ) -> Uc8253
     requires { ⌜ (p .config .optics .«full_swing» ≤ most) × (refreshRuns (p .operation .work) ≡ true → everyState (p .config .optics .«full_swing») (now states) ≡ true) ⌝ }
     ensures { λ r. ⌜ ((old new : List ℕ) → world r (buffers old new (now (states .exit)) (now (numbers .entry)) (now (picture .exit)) (now (rows .exit)))
-        ≡ Rattle.uc8253.specs.Copying.fallen (world p (buffers old new (now (states .entry)) (now (numbers .entry)) (now (picture .entry)) (now (rows .entry))))) ⌝ }
+        ≡ steps.fallen (world p (buffers old new (now (states .entry)) (now (numbers .entry)) (now (picture .entry)) (now (rows .entry))))) ⌝ }
 {
     let q = cut(p, states, numbers, picture, rows);
     let r = close(q, rows);
@@ -97,7 +98,7 @@ fn fall(
 
 // Release starts the hardware reset.
 fn rise(p: Uc8253) -> Uc8253
-    ensures { λ r. ⌜ r ≡ Rattle.uc8253.specs.Copying.risen p ⌝ }
+    ensures { λ r. ⌜ r ≡ steps.risen p ⌝ }
 {
     let mode = Mode {
         power: Power::Running,

@@ -1,0 +1,5 @@
+pub mod Chain
+pub mod Bytes
+pub mod Parts
+pub mod Glass
+pub mod Sound

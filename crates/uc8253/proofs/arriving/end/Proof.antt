@@ -1,0 +1,134 @@
+use borrow.Author.Needs.{needs}
+use Rattle.uc8253.proofs.arriving.end.Statement.{statement}
+use Rattle.uc8253.proofs.arriving.end.Tie as tie
+use Rattle.uc8253.proofs.arriving.end.Reads as reads
+use Rattle.uc8253.proofs.arriving.end.Lts as lts
+use Rattle.uc8253.proofs.arriving.fall_asleep.Reads as fall-asleep-reads
+use Rattle.uc8253.proofs.arriving.powered.Reads as powered-reads
+use Rattle.uc8253.proofs.refreshes.finish_whole.Reads as finish-whole-reads
+use Rattle.uc8253.proofs.telling.rested.Reads as rested-reads
+
+-- src/arriving.rt:56:26
+enum-told : tie.Need-enum-told
+enum-told c = search needs
+
+-- src/arriving.rt:57:26
+enum-told-2 : tie.Need-enum-told-2
+enum-told-2 c = search needs
+
+-- src/arriving.rt:57:26
+powered-requires : tie.Need-powered-requires
+powered-requires c κs = search needs
+
+-- src/arriving.rt:58:27
+enum-told-3 : tie.Need-enum-told-3
+enum-told-3 c = search needs
+
+-- src/arriving.rt:58:27
+powered-requires-2 : tie.Need-powered-requires-2
+powered-requires-2 c κs = search needs
+
+-- src/arriving.rt:59:28
+enum-told-4 : tie.Need-enum-told-4
+enum-told-4 c = search needs
+
+-- src/arriving.rt:59:28
+fall-asleep-requires : tie.Need-fall-asleep-requires
+fall-asleep-requires c κs = search needs
+
+-- src/arriving.rt:60:28
+enum-told-5 : tie.Need-enum-told-5
+enum-told-5 c = search needs
+
+-- src/arriving.rt:60:28
+rested-requires : tie.Need-rested-requires
+rested-requires c κs = search needs
+
+-- src/arriving.rt:61:32
+enum-told-6 : tie.Need-enum-told-6
+enum-told-6 c = search needs
+
+-- src/arriving.rt:61:32
+rested-requires-2 : tie.Need-rested-requires-2
+rested-requires-2 c κs = search needs
+
+-- src/arriving.rt:62:23
+enum-known-work : tie.Need-enum-known-work
+enum-known-work c = search needs
+
+-- src/arriving.rt:63:17
+finish-whole-requires : tie.Need-finish-whole-requires
+finish-whole-requires c κs = ?
+
+-- src/arriving.rt:64:13
+rested-requires-3 : tie.Need-rested-requires-3
+rested-requires-3 c κs = search needs
+
+-- src/arriving.rt:41:1
+returns : tie.Need-returns
+returns c = ?
+
+-- src/arriving.rt:41:1
+returns-2 : tie.Need-returns-2
+returns-2 c = ?
+
+-- src/arriving.rt:41:1
+returns-3 : tie.Need-returns-3
+returns-3 c = ?
+
+-- src/arriving.rt:41:1
+returns-4 : tie.Need-returns-4
+returns-4 c = ?
+
+-- src/arriving.rt:41:1
+returns-5 : tie.Need-returns-5
+returns-5 c = ?
+
+-- src/arriving.rt:41:1
+returns-6 : tie.Need-returns-6
+returns-6 c = ?
+
+-- src/arriving.rt:41:1
+same-length : tie.Need-same-length
+same-length c = search needs
+
+-- src/arriving.rt:41:1
+same-length-2 : tie.Need-same-length-2
+same-length-2 c = search needs
+
+-- src/arriving.rt:41:1
+same-length-3 : tie.Need-same-length-3
+same-length-3 c = search needs
+
+-- src/arriving.rt:41:1
+returns-7 : tie.Need-returns-7
+returns-7 c = ?
+
+pub end-spec : {M : Type 1} → statement M
+end-spec =
+    tie.close
+    (tie.spec
+    enum-told
+    enum-told-2
+    powered-requires
+    enum-told-3
+    powered-requires-2
+    enum-told-4
+    fall-asleep-requires
+    enum-told-5
+    rested-requires
+    enum-told-6
+    rested-requires-2
+    enum-known-work
+    finish-whole-requires
+    rested-requires-3
+    returns
+    returns-2
+    returns-3
+    returns-4
+    returns-5
+    returns-6
+    same-length
+    same-length-2
+    same-length-3
+    returns-7)

@@ -1,0 +1,14 @@
+use Rattle.controller.specs.Calls.{zeros}
+use mathlib.Core.Path.{refl}
+use Rattle.uc8253.proofs.making.no_config.Statement.{statement}
+use Rattle.uc8253.proofs.making.no_config.Tie as tie
+use Rattle.uc8253.proofs.making.no_config.Reads as reads
+use Rattle.uc8253.proofs.making.no_config.Lts as lts
+
+-- src/making.rt:107:1
+returns : tie.Need-returns
+unfolding zeros
+returns c = refl
+
+pub no-config-spec : {M : Type 1} → statement M
+no-config-spec = tie.close (tie.spec returns)

@@ -1,0 +1,47 @@
+use borrow.Author.Needs.{needs}
+use Rattle.uc8253.proofs.refreshes.drive_first.Statement.{statement}
+use Rattle.uc8253.proofs.refreshes.drive_first.Tie as tie
+use Rattle.uc8253.proofs.refreshes.drive_first.Reads as reads
+use Rattle.uc8253.proofs.refreshes.drive_first.Lts as lts
+use Rattle.pixels.proofs.drive.Reads as drive-reads
+use Rattle.waveform.proofs.Waveform.transfer_first.Reads as transfer-first-reads
+
+-- src/refreshes.rt:107:9
+transfer-first-requires : tie.Need-transfer-first-requires
+transfer-first-requires c κs = search needs
+
+-- src/refreshes.rt:108:9
+transfer-first-requires-2 : tie.Need-transfer-first-requires-2
+transfer-first-requires-2 c κs = search needs
+
+-- src/refreshes.rt:109:9
+transfer-first-requires-3 : tie.Need-transfer-first-requires-3
+transfer-first-requires-3 c κs = search needs
+
+-- src/refreshes.rt:110:9
+transfer-first-requires-4 : tie.Need-transfer-first-requires-4
+transfer-first-requires-4 c κs = search needs
+
+-- src/refreshes.rt:111:5
+drive-requires : tie.Need-drive-requires
+drive-requires c κs = search needs
+
+-- src/refreshes.rt:101:1
+same-length : tie.Need-same-length
+same-length c = search needs
+
+-- src/refreshes.rt:101:1
+returns : tie.Need-returns
+returns c = ?
+
+pub drive-first-spec : {M : Type 1} → statement M
+drive-first-spec =
+    tie.close
+    (tie.spec
+    transfer-first-requires
+    transfer-first-requires-2
+    transfer-first-requires-3
+    transfer-first-requires-4
+    drive-requires
+    same-length
+    returns)

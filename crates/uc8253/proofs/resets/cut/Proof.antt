@@ -1,0 +1,107 @@
+use borrow.Author.Needs.{needs}
+use Rattle.uc8253.proofs.resets.cut.Statement.{statement}
+use Rattle.uc8253.proofs.resets.cut.Tie as tie
+use Rattle.uc8253.proofs.resets.cut.Reads as reads
+use Rattle.uc8253.proofs.resets.cut.Lts as lts
+use Rattle.uc8253.proofs.refreshes.finish_cut.Reads as finish-cut-reads
+use Rattle.uc8253.proofs.telling.tell.Reads as tell-reads
+
+-- src/resets.rt:40:26
+enum-told : tie.Need-enum-told
+enum-told c = search needs
+
+-- src/resets.rt:41:26
+enum-told-2 : tie.Need-enum-told-2
+enum-told-2 c = search needs
+
+-- src/resets.rt:42:27
+enum-told-3 : tie.Need-enum-told-3
+enum-told-3 c = search needs
+
+-- src/resets.rt:43:28
+enum-told-4 : tie.Need-enum-told-4
+enum-told-4 c = search needs
+
+-- src/resets.rt:44:28
+enum-told-5 : tie.Need-enum-told-5
+enum-told-5 c = search needs
+
+-- src/resets.rt:45:32
+enum-told-6 : tie.Need-enum-told-6
+enum-told-6 c = search needs
+
+-- src/resets.rt:46:23
+enum-known-work : tie.Need-enum-known-work
+enum-known-work c = search needs
+
+-- src/resets.rt:47:17
+tell-requires : tie.Need-tell-requires
+tell-requires c κs = search needs
+
+-- src/resets.rt:48:13
+finish-cut-requires : tie.Need-finish-cut-requires
+finish-cut-requires c κs = ?
+
+-- src/resets.rt:26:1
+returns : tie.Need-returns
+returns c = ?
+
+-- src/resets.rt:26:1
+returns-2 : tie.Need-returns-2
+returns-2 c = ?
+
+-- src/resets.rt:26:1
+returns-3 : tie.Need-returns-3
+returns-3 c = ?
+
+-- src/resets.rt:26:1
+returns-4 : tie.Need-returns-4
+returns-4 c = ?
+
+-- src/resets.rt:26:1
+returns-5 : tie.Need-returns-5
+returns-5 c = ?
+
+-- src/resets.rt:26:1
+returns-6 : tie.Need-returns-6
+returns-6 c = ?
+
+-- src/resets.rt:26:1
+same-length : tie.Need-same-length
+same-length c = search needs
+
+-- src/resets.rt:26:1
+same-length-2 : tie.Need-same-length-2
+same-length-2 c = search needs
+
+-- src/resets.rt:26:1
+same-length-3 : tie.Need-same-length-3
+same-length-3 c = search needs
+
+-- src/resets.rt:26:1
+returns-7 : tie.Need-returns-7
+returns-7 c = ?
+
+pub cut-spec : {M : Type 1} → statement M
+cut-spec =
+    tie.close
+    (tie.spec
+    enum-told
+    enum-told-2
+    enum-told-3
+    enum-told-4
+    enum-told-5
+    enum-told-6
+    enum-known-work
+    tell-requires
+    finish-cut-requires
+    returns
+    returns-2
+    returns-3
+    returns-4
+    returns-5
+    returns-6
+    same-length
+    same-length-2
+    same-length-3
+    returns-7)
