@@ -1,0 +1,63 @@
+use borrow.Author.Needs.{needs}
+use Rattle.uc8253.proofs.commands.close.Statement.{statement}
+use Rattle.uc8253.proofs.commands.close.Tie as tie
+use Rattle.uc8253.proofs.commands.close.Reads as reads
+use Rattle.uc8253.proofs.commands.close.Lts as lts
+use Rattle.controller.proofs.closing.Reads as closing-reads
+use Rattle.uc8253.proofs.telling.told.Reads as told-reads
+use Rattle.uc8253.proofs.telling.with_current.Reads as with-current-reads
+
+-- src/commands.rt:41:26
+enum-told : tie.Need-enum-told
+enum-told c = search needs
+
+-- src/commands.rt:42:30
+enum-told-2 : tie.Need-enum-told-2
+enum-told-2 c = search needs
+
+-- src/commands.rt:43:25
+enum-known-current : tie.Need-enum-known-current
+enum-known-current c = search needs
+
+-- src/commands.rt:44:35
+closing-requires : tie.Need-closing-requires
+closing-requires c κs = search needs
+
+-- src/commands.rt:44:17
+told-requires : tie.Need-told-requires
+told-requires c κs = search needs
+
+-- src/commands.rt:45:13
+with-current-requires : tie.Need-with-current-requires
+with-current-requires c κs = search needs
+
+-- src/commands.rt:35:1
+returns : tie.Need-returns
+returns c = ?
+
+-- src/commands.rt:35:1
+returns-2 : tie.Need-returns-2
+returns-2 c = ?
+
+-- src/commands.rt:35:1
+same-length : tie.Need-same-length
+same-length c = search needs
+
+-- src/commands.rt:35:1
+returns-3 : tie.Need-returns-3
+returns-3 c = ?
+
+pub close-spec : {M : Type 1} → statement M
+close-spec =
+    tie.close
+    (tie.spec
+    enum-told
+    enum-told-2
+    enum-known-current
+    closing-requires
+    told-requires
+    with-current-requires
+    returns
+    returns-2
+    same-length
+    returns-3)

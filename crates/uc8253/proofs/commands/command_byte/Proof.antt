@@ -1,0 +1,31 @@
+use borrow.Author.Needs.{needs}
+use Rattle.uc8253.proofs.commands.command_byte.Statement.{statement}
+use Rattle.uc8253.proofs.commands.command_byte.Tie as tie
+use Rattle.uc8253.proofs.commands.command_byte.Reads as reads
+use Rattle.uc8253.proofs.commands.command_byte.Lts as lts
+use Rattle.uc8253.proofs.commands.close.Reads as close-reads
+use Rattle.uc8253.proofs.commands.pass.Reads as pass-reads
+
+-- src/commands.rt:190:9
+close-requires : tie.Need-close-requires
+close-requires c κs = search needs
+
+-- src/commands.rt:191:5
+pass-requires : tie.Need-pass-requires
+pass-requires c κs = search needs
+
+-- src/commands.rt:179:1
+same-length : tie.Need-same-length
+same-length c = search needs
+
+-- src/commands.rt:179:1
+same-length-2 : tie.Need-same-length-2
+same-length-2 c = search needs
+
+-- src/commands.rt:179:1
+returns : tie.Need-returns
+returns c = ?
+
+pub command-byte-spec : {M : Type 1} → statement M
+command-byte-spec =
+    tie.close (tie.spec close-requires pass-requires same-length same-length-2 returns)

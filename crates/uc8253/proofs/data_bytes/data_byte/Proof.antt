@@ -1,0 +1,78 @@
+use borrow.Author.Needs.{needs}
+use Rattle.uc8253.proofs.data_bytes.data_byte.Statement.{statement}
+use Rattle.uc8253.proofs.data_bytes.data_byte.Tie as tie
+use Rattle.uc8253.proofs.data_bytes.data_byte.Reads as reads
+use Rattle.uc8253.proofs.data_bytes.data_byte.Lts as lts
+use Rattle.uc8253.proofs.data_bytes.take_byte.Reads as take-byte-reads
+use Rattle.uc8253.proofs.telling.tell.Reads as tell-reads
+use Rattle.uc8253.proofs.telling.with_current.Reads as with-current-reads
+
+-- src/data_bytes.rt:161:29
+enum-told : tie.Need-enum-told
+enum-told c = search needs
+
+-- src/data_bytes.rt:161:17
+tell-requires : tie.Need-tell-requires
+tell-requires c κs = search needs
+
+-- src/data_bytes.rt:162:13
+with-current-requires : tie.Need-with-current-requires
+with-current-requires c κs = search needs
+
+-- src/data_bytes.rt:164:30
+enum-told-2 : tie.Need-enum-told-2
+enum-told-2 c = search needs
+
+-- src/data_bytes.rt:165:25
+enum-known-current : tie.Need-enum-known-current
+enum-known-current c = search needs
+
+-- src/data_bytes.rt:165:36
+take-byte-requires : tie.Need-take-byte-requires
+take-byte-requires c κs = search needs
+
+-- src/data_bytes.rt:147:1
+same-length : tie.Need-same-length
+same-length c = search needs
+
+-- src/data_bytes.rt:147:1
+returns : tie.Need-returns
+returns c = ?
+
+-- src/data_bytes.rt:147:1
+returns-2 : tie.Need-returns-2
+returns-2 c = ?
+
+-- src/data_bytes.rt:147:1
+same-length-2 : tie.Need-same-length-2
+same-length-2 c = search needs
+
+-- src/data_bytes.rt:147:1
+same-length-3 : tie.Need-same-length-3
+same-length-3 c = search needs
+
+-- src/data_bytes.rt:147:1
+same-length-4 : tie.Need-same-length-4
+same-length-4 c = search needs
+
+-- src/data_bytes.rt:147:1
+returns-3 : tie.Need-returns-3
+returns-3 c = ?
+
+pub data-byte-spec : {M : Type 1} → statement M
+data-byte-spec =
+    tie.close
+    (tie.spec
+    enum-told
+    tell-requires
+    with-current-requires
+    enum-told-2
+    enum-known-current
+    take-byte-requires
+    same-length
+    returns
+    returns-2
+    same-length-2
+    same-length-3
+    same-length-4
+    returns-3)

@@ -1,0 +1,42 @@
+use borrow.Author.Needs.{needs}
+use Rattle.uc8253.proofs.data_bytes.past_window.Statement.{statement}
+use Rattle.uc8253.proofs.data_bytes.past_window.Tie as tie
+use Rattle.uc8253.proofs.data_bytes.past_window.Reads as reads
+use Rattle.uc8253.proofs.data_bytes.past_window.Lts as lts
+use Rattle.uc8253.proofs.telling.tell.Reads as tell-reads
+use Rattle.uc8253.proofs.telling.with_current.Reads as with-current-reads
+
+-- src/data_bytes.rt:55:9
+with-current-requires : tie.Need-with-current-requires
+with-current-requires c κs = search needs
+
+-- src/data_bytes.rt:55:9
+returns : tie.Need-returns
+returns c = ?
+
+-- src/data_bytes.rt:59:9
+tell-requires : tie.Need-tell-requires
+tell-requires c κs = search needs
+
+-- src/data_bytes.rt:60:5
+with-current-requires-2 : tie.Need-with-current-requires-2
+with-current-requires-2 c κs = search needs
+
+-- src/data_bytes.rt:51:1
+same-length : tie.Need-same-length
+same-length c = search needs
+
+-- src/data_bytes.rt:51:1
+returns-2 : tie.Need-returns-2
+returns-2 c = ?
+
+pub past-window-spec : {M : Type 1} → statement M
+past-window-spec =
+    tie.close
+    (tie.spec
+    with-current-requires
+    returns
+    tell-requires
+    with-current-requires-2
+    same-length
+    returns-2)

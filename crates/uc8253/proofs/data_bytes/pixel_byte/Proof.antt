@@ -1,0 +1,60 @@
+use borrow.Author.Needs.{needs}
+use Rattle.uc8253.proofs.data_bytes.pixel_byte.Statement.{statement}
+use Rattle.uc8253.proofs.data_bytes.pixel_byte.Tie as tie
+use Rattle.uc8253.proofs.data_bytes.pixel_byte.Reads as reads
+use Rattle.uc8253.proofs.data_bytes.pixel_byte.Lts as lts
+use Rattle.ram.proofs.next.Reads as next-reads
+use Rattle.ram.proofs.write.Reads as write-reads
+use Rattle.registers.proofs.Registers.written.Reads as written-reads
+use Rattle.uc8253.proofs.data_bytes.past_window.Reads as past-window-reads
+use Rattle.uc8253.proofs.telling.with_current.Reads as with-current-reads
+
+-- src/data_bytes.rt:69:9
+written-requires : tie.Need-written-requires
+written-requires c κs = search needs
+
+-- src/data_bytes.rt:71:9
+past-window-requires : tie.Need-past-window-requires
+past-window-requires c κs = search needs
+
+-- src/data_bytes.rt:71:9
+same-length : tie.Need-same-length
+same-length c = search needs
+
+-- src/data_bytes.rt:71:9
+returns : tie.Need-returns
+returns c = ?
+
+-- src/data_bytes.rt:73:5
+write-requires : tie.Need-write-requires
+write-requires c κs = search needs
+
+-- src/data_bytes.rt:76:5
+next-requires : tie.Need-next-requires
+next-requires c κs = search needs
+
+-- src/data_bytes.rt:77:5
+with-current-requires : tie.Need-with-current-requires
+with-current-requires c κs = search needs
+
+-- src/data_bytes.rt:64:1
+same-length-2 : tie.Need-same-length-2
+same-length-2 c = search needs
+
+-- src/data_bytes.rt:64:1
+returns-2 : tie.Need-returns-2
+returns-2 c = ?
+
+pub pixel-byte-spec : {M : Type 1} → statement M
+pixel-byte-spec =
+    tie.close
+    (tie.spec
+    written-requires
+    past-window-requires
+    same-length
+    returns
+    write-requires
+    next-requires
+    with-current-requires
+    same-length-2
+    returns-2)

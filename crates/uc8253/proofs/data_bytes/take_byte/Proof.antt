@@ -1,0 +1,209 @@
+use borrow.Author.Needs.{needs}
+use Rattle.uc8253.proofs.data_bytes.take_byte.Statement.{statement}
+use Rattle.uc8253.proofs.data_bytes.take_byte.Tie as tie
+use Rattle.uc8253.proofs.data_bytes.take_byte.Reads as reads
+use Rattle.uc8253.proofs.data_bytes.take_byte.Lts as lts
+use Rattle.controller.proofs.purpose.Reads as purpose-reads
+use Rattle.uc8253.proofs.data_bytes.more.Reads as more-reads
+use Rattle.uc8253.proofs.data_bytes.pixel_byte.Reads as pixel-byte-reads
+use Rattle.uc8253.proofs.data_bytes.register_byte.Reads as register-byte-reads
+use Rattle.uc8253.proofs.data_bytes.soft_reset.Reads as soft-reset-reads
+use Rattle.uc8253.proofs.data_bytes.softly.Reads as softly-reads
+use Rattle.uc8253.proofs.telling.start.Reads as start-reads
+use Rattle.uc8253.proofs.telling.tell.Reads as tell-reads
+use Rattle.uc8253.proofs.telling.with_current.Reads as with-current-reads
+
+-- src/data_bytes.rt:116:9
+more-requires : tie.Need-more-requires
+more-requires c κs = search needs
+
+-- src/data_bytes.rt:117:9
+purpose-requires : tie.Need-purpose-requires
+purpose-requires c κs = search needs
+
+-- src/data_bytes.rt:120:17
+enum-told : tie.Need-enum-told
+enum-told c = search needs
+
+-- src/data_bytes.rt:122:17
+tell-requires : tie.Need-tell-requires
+tell-requires c κs = search needs
+
+-- src/data_bytes.rt:123:13
+with-current-requires : tie.Need-with-current-requires
+with-current-requires c κs = search needs
+
+-- src/data_bytes.rt:125:39
+enum-told-2 : tie.Need-enum-told-2
+enum-told-2 c = search needs
+
+-- src/data_bytes.rt:125:23
+with-current-requires-2 : tie.Need-with-current-requires-2
+with-current-requires-2 c κs = search needs
+
+-- src/data_bytes.rt:127:17
+enum-told-3 : tie.Need-enum-told-3
+enum-told-3 c = search needs
+
+-- src/data_bytes.rt:127:17
+soft-reset-requires : tie.Need-soft-reset-requires
+soft-reset-requires c κs = search needs
+
+-- src/data_bytes.rt:128:45
+softly-requires : tie.Need-softly-requires
+softly-requires c κs = search needs
+
+-- src/data_bytes.rt:128:13
+with-current-requires-3 : tie.Need-with-current-requires-3
+with-current-requires-3 c κs = search needs
+
+-- src/data_bytes.rt:131:30
+enum-told-4 : tie.Need-enum-told-4
+enum-told-4 c = search needs
+
+-- src/data_bytes.rt:131:17
+start-requires : tie.Need-start-requires
+start-requires c κs = search needs
+
+-- src/data_bytes.rt:132:13
+with-current-requires-4 : tie.Need-with-current-requires-4
+with-current-requires-4 c κs = search needs
+
+-- src/data_bytes.rt:135:29
+enum-told-5 : tie.Need-enum-told-5
+enum-told-5 c = search needs
+
+-- src/data_bytes.rt:135:17
+tell-requires-2 : tie.Need-tell-requires-2
+tell-requires-2 c κs = search needs
+
+-- src/data_bytes.rt:136:13
+with-current-requires-5 : tie.Need-with-current-requires-5
+with-current-requires-5 c κs = search needs
+
+-- src/data_bytes.rt:139:17
+enum-told-6 : tie.Need-enum-told-6
+enum-told-6 c = search needs
+
+-- src/data_bytes.rt:139:17
+register-byte-requires : tie.Need-register-byte-requires
+register-byte-requires c κs = search needs
+
+-- src/data_bytes.rt:140:13
+with-current-requires-6 : tie.Need-with-current-requires-6
+with-current-requires-6 c κs = search needs
+
+-- src/data_bytes.rt:142:46
+enum-told-7 : tie.Need-enum-told-7
+enum-told-7 c = search needs
+
+-- src/data_bytes.rt:142:23
+pixel-byte-requires : tie.Need-pixel-byte-requires
+pixel-byte-requires c κs = search needs
+
+-- src/data_bytes.rt:143:46
+enum-told-8 : tie.Need-enum-told-8
+enum-told-8 c = search needs
+
+-- src/data_bytes.rt:143:23
+pixel-byte-requires-2 : tie.Need-pixel-byte-requires-2
+pixel-byte-requires-2 c κs = search needs
+
+-- src/data_bytes.rt:105:1
+same-length : tie.Need-same-length
+same-length c = search needs
+
+-- src/data_bytes.rt:105:1
+returns : tie.Need-returns
+returns c = ?
+
+-- src/data_bytes.rt:105:1
+returns-2 : tie.Need-returns-2
+returns-2 c = ?
+
+-- src/data_bytes.rt:105:1
+returns-3 : tie.Need-returns-3
+returns-3 c = ?
+
+-- src/data_bytes.rt:105:1
+returns-4 : tie.Need-returns-4
+returns-4 c = ?
+
+-- src/data_bytes.rt:105:1
+same-length-2 : tie.Need-same-length-2
+same-length-2 c = search needs
+
+-- src/data_bytes.rt:105:1
+returns-5 : tie.Need-returns-5
+returns-5 c = ?
+
+-- src/data_bytes.rt:105:1
+returns-6 : tie.Need-returns-6
+returns-6 c = ?
+
+-- src/data_bytes.rt:105:1
+same-length-3 : tie.Need-same-length-3
+same-length-3 c = search needs
+
+-- src/data_bytes.rt:105:1
+same-length-4 : tie.Need-same-length-4
+same-length-4 c = search needs
+
+-- src/data_bytes.rt:105:1
+returns-7 : tie.Need-returns-7
+returns-7 c = ?
+
+-- src/data_bytes.rt:105:1
+same-length-5 : tie.Need-same-length-5
+same-length-5 c = search needs
+
+-- src/data_bytes.rt:105:1
+same-length-6 : tie.Need-same-length-6
+same-length-6 c = search needs
+
+-- src/data_bytes.rt:105:1
+returns-8 : tie.Need-returns-8
+returns-8 c = ?
+
+pub take-byte-spec : {M : Type 1} → statement M
+take-byte-spec =
+    tie.close
+    (tie.spec
+    more-requires
+    purpose-requires
+    enum-told
+    tell-requires
+    with-current-requires
+    enum-told-2
+    with-current-requires-2
+    enum-told-3
+    soft-reset-requires
+    softly-requires
+    with-current-requires-3
+    enum-told-4
+    start-requires
+    with-current-requires-4
+    enum-told-5
+    tell-requires-2
+    with-current-requires-5
+    enum-told-6
+    register-byte-requires
+    with-current-requires-6
+    enum-told-7
+    pixel-byte-requires
+    enum-told-8
+    pixel-byte-requires-2
+    same-length
+    returns
+    returns-2
+    returns-3
+    returns-4
+    same-length-2
+    returns-5
+    returns-6
+    same-length-3
+    same-length-4
+    returns-7
+    same-length-5
+    same-length-6
+    returns-8)

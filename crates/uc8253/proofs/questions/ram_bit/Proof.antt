@@ -1,0 +1,26 @@
+use borrow.Author.Needs.{needs}
+use Rattle.uc8253.proofs.questions.ram_bit.Statement.{statement}
+use Rattle.uc8253.proofs.questions.ram_bit.Tie as tie
+use Rattle.uc8253.proofs.questions.ram_bit.Reads as reads
+use Rattle.uc8253.proofs.questions.ram_bit.Lts as lts
+use Rattle.ram.proofs.ram_bit.Reads as ram-bit-reads
+use Rattle.uc8253.proofs.questions.lent_refused.Reads as lent-refused-reads
+
+-- src/questions.rt:132:9
+lent-refused-requires : tie.Need-lent-refused-requires
+lent-refused-requires c κs = search needs
+
+-- src/questions.rt:134:9
+returns : tie.Need-returns
+returns c = ?
+
+-- src/questions.rt:139:9
+ram-bit-requires : tie.Need-ram-bit-requires
+ram-bit-requires c κs = search needs
+
+-- src/questions.rt:129:1
+returns-2 : tie.Need-returns-2
+returns-2 c = ?
+
+pub ram-bit-spec : {M : Type 1} → statement M
+ram-bit-spec = tie.close (tie.spec lent-refused-requires returns ram-bit-requires returns-2)

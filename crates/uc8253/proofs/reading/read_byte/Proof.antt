@@ -1,0 +1,51 @@
+use borrow.Author.Needs.{needs}
+use Rattle.uc8253.proofs.reading.read_byte.Statement.{statement}
+use Rattle.uc8253.proofs.reading.read_byte.Tie as tie
+use Rattle.uc8253.proofs.reading.read_byte.Reads as reads
+use Rattle.uc8253.proofs.reading.read_byte.Lts as lts
+use Rattle.uc8253.proofs.reading.read_under.Reads as read-under-reads
+
+-- src/reading.rt:78:25
+enum-known-current : tie.Need-enum-known-current
+enum-known-current c = search needs
+
+-- src/reading.rt:78:36
+read-under-requires : tie.Need-read-under-requires
+read-under-requires c κs = search needs
+
+-- src/reading.rt:81:19
+enum-told : tie.Need-enum-told
+enum-told c = search needs
+
+-- src/reading.rt:85:19
+enum-told-2 : tie.Need-enum-told-2
+enum-told-2 c = search needs
+
+-- src/reading.rt:72:1
+same-length : tie.Need-same-length
+same-length c = search needs
+
+-- src/reading.rt:72:1
+returns : tie.Need-returns
+returns c = ?
+
+-- src/reading.rt:72:1
+returns-2 : tie.Need-returns-2
+returns-2 c = ?
+
+-- src/reading.rt:72:1
+returns-3 : tie.Need-returns-3
+returns-3 c = ?
+
+pub read-byte-spec : {M : Type 1} → statement M
+read-byte-spec =
+    tie.close
+    (tie.spec
+    enum-known-current
+    read-under-requires
+    enum-told
+    enum-told-2
+    same-length
+    returns
+    returns-2
+    returns-3)

@@ -1,0 +1,102 @@
+use borrow.Author.Needs.{needs}
+use Rattle.uc8253.proofs.resets.reset_edge.Statement.{statement}
+use Rattle.uc8253.proofs.resets.reset_edge.Tie as tie
+use Rattle.uc8253.proofs.resets.reset_edge.Reads as reads
+use Rattle.uc8253.proofs.resets.reset_edge.Lts as lts
+use Rattle.uc8253.proofs.resets.fall.Reads as fall-reads
+use Rattle.uc8253.proofs.resets.rise.Reads as rise-reads
+
+-- src/resets.rt:130:16
+enum-told : tie.Need-enum-told
+enum-told c = search needs
+
+-- src/resets.rt:131:17
+fall-requires : tie.Need-fall-requires
+fall-requires c κs = ?
+
+-- src/resets.rt:131:17
+same-length : tie.Need-same-length
+same-length c = search needs
+
+-- src/resets.rt:131:17
+same-length-2 : tie.Need-same-length-2
+same-length-2 c = search needs
+
+-- src/resets.rt:131:17
+same-length-3 : tie.Need-same-length-3
+same-length-3 c = search needs
+
+-- src/resets.rt:131:17
+returns : tie.Need-returns
+returns c = ?
+
+-- src/resets.rt:136:16
+enum-told-2 : tie.Need-enum-told-2
+enum-told-2 c = search needs
+
+-- src/resets.rt:137:17
+fall-requires-2 : tie.Need-fall-requires-2
+fall-requires-2 c κs = ?
+
+-- src/resets.rt:137:17
+same-length-4 : tie.Need-same-length-4
+same-length-4 c = search needs
+
+-- src/resets.rt:137:17
+same-length-5 : tie.Need-same-length-5
+same-length-5 c = search needs
+
+-- src/resets.rt:137:17
+same-length-6 : tie.Need-same-length-6
+same-length-6 c = search needs
+
+-- src/resets.rt:137:17
+returns-2 : tie.Need-returns-2
+returns-2 c = ?
+
+-- src/resets.rt:142:16
+enum-told-3 : tie.Need-enum-told-3
+enum-told-3 c = search needs
+
+-- src/resets.rt:143:17
+returns-3 : tie.Need-returns-3
+returns-3 c = ?
+
+-- src/resets.rt:145:13
+rise-requires : tie.Need-rise-requires
+rise-requires c κs = search needs
+
+-- src/resets.rt:114:1
+returns-4 : tie.Need-returns-4
+returns-4 c = ?
+
+-- src/resets.rt:114:1
+returns-5 : tie.Need-returns-5
+returns-5 c = ?
+
+-- src/resets.rt:114:1
+returns-6 : tie.Need-returns-6
+returns-6 c = ?
+
+pub reset-edge-spec : {M : Type 1} → statement M
+reset-edge-spec =
+    tie.close
+    (tie.spec
+    enum-told
+    fall-requires
+    same-length
+    same-length-2
+    same-length-3
+    returns
+    enum-told-2
+    fall-requires-2
+    same-length-4
+    same-length-5
+    same-length-6
+    returns-2
+    enum-told-3
+    returns-3
+    rise-requires
+    returns-4
+    returns-5
+    returns-6)

@@ -1,0 +1,54 @@
+use borrow.Author.Needs.{needs}
+use Rattle.uc8253.proofs.turned_back.Statement.{statement}
+use Rattle.uc8253.proofs.turned_back.Tie as tie
+use Rattle.uc8253.proofs.turned_back.Reads as reads
+use Rattle.uc8253.proofs.turned_back.Lts as lts
+use Rattle.controller.proofs.ends_refresh.Reads as ends-refresh-reads
+use Rattle.controller.proofs.foreign.Reads as foreign-reads
+use Rattle.controller.proofs.lengths_fit.Reads as lengths-fit-reads
+use Rattle.uc8253.proofs.foreign_contents.Reads as foreign-contents-reads
+
+-- src/lib.rt:74:8
+foreign-requires : tie.Need-foreign-requires
+foreign-requires c κs = search needs
+
+-- src/lib.rt:75:9
+returns : tie.Need-returns
+returns c = ?
+
+-- src/lib.rt:78:8
+lengths-fit-requires : tie.Need-lengths-fit-requires
+lengths-fit-requires c κs = search needs
+
+-- src/lib.rt:87:12
+ends-refresh-requires : tie.Need-ends-refresh-requires
+ends-refresh-requires c κs = search needs
+
+-- src/lib.rt:88:13
+foreign-contents-requires : tie.Need-foreign-contents-requires
+foreign-contents-requires c κs = search needs
+
+-- src/lib.rt:88:13
+returns-2 : tie.Need-returns-2
+returns-2 c = ?
+
+-- src/lib.rt:90:9
+returns-3 : tie.Need-returns-3
+returns-3 c = ?
+
+-- src/lib.rt:61:1
+returns-4 : tie.Need-returns-4
+returns-4 c = ?
+
+pub turned-back-spec : {M : Type 1} → statement M
+turned-back-spec =
+    tie.close
+    (tie.spec
+    foreign-requires
+    returns
+    lengths-fit-requires
+    ends-refresh-requires
+    foreign-contents-requires
+    returns-2
+    returns-3
+    returns-4)
