@@ -26,7 +26,15 @@ pub use questions::row_refused;
 pub use questions::take_diagnostics;
 pub use questions::Taken;
 ghost use mathlib.Core.Path.{_≡_};
-ghost use mathlib.Core.Bool.{false};
+ghost use mathlib.Core.Bool.{true, false};
+ghost use Prim.Native.Nat.{_≤_};
+ghost use Rattle.pixels.specs.States.{most, everyState};
+ghost use Rattle.controller.specs.Arrives.{arrived};
+ghost use Rattle.controller.specs.Command.{commandByte};
+ghost use Rattle.controller.specs.DataByte.{dataByte};
+ghost use Rattle.controller.specs.Reading.{reading, readOf};
+ghost use Rattle.controller.specs.Reset.{resetEdge};
+ghost use Rattle.controller.specs.TurnedBack.{endsRefresh};
 ghost use Rattle.uc8253.specs.Steps as steps;
 ghost use Rattle.controller.specs.World.{buffers, world};
 ghost use Rattle.controller.specs.TurnedBack as tests;
@@ -41,6 +49,7 @@ use controller::lengths_fit;
 use data_bytes::data_byte;
 use pixels::all_numbers;
 use pixels::all_states;
+use reading::ByteRead;
 use reading::read_byte;
 use resets::reset_edge;
 
@@ -105,6 +114,85 @@ fn foreign_contents(swing: u64, states: &[i64], numbers: &[u8]) -> u8
     7
 }
 
+// The call arrives, then the command byte.
+fn command_at(
+    p: Uc8253,
+    at: u64,
+    command: u8,
+    old: &mut [u8],
+    new: &[u8],
+    states: &mut [i64],
+    numbers: &mut [u8],
+    picture: &mut [u8],
+    rows: &mut [u64],
+) -> Uc8253
+    requires { ⌜ (p .config .optics .«full_swing» ≤ most) × (endsRefresh false at p ≡ true → everyState (p .config .optics .«full_swing») (now states) ≡ true) ⌝ }
+    ensures { λ r. ⌜ world r (buffers (now (old .exit)) (now (new .entry)) (now (states .exit)) (now (numbers .exit)) (now (picture .exit)) (now (rows .exit)))
+        ≡ commandByte command (arrived at (world p (buffers (now (old .entry)) (now (new .entry)) (now (states .entry)) (now (numbers .entry)) (now (picture .entry)) (now (rows .entry))))) ⌝ }
+{
+    let q = arrive(p, at, old, new, states, numbers, picture);
+    command_byte(q, command, old, new, numbers, rows)
+}
+
+// The call arrives, then the data byte.
+fn data_at(
+    p: Uc8253,
+    at: u64,
+    byte: u8,
+    old: &mut [u8],
+    new: &mut [u8],
+    states: &mut [i64],
+    numbers: &[u8],
+    picture: &mut [u8],
+    rows: &mut [u64],
+) -> Uc8253
+    requires { ⌜ (p .config .optics .«full_swing» ≤ most) × (endsRefresh false at p ≡ true → everyState (p .config .optics .«full_swing») (now states) ≡ true) ⌝ }
+    ensures { λ r. ⌜ world r (buffers (now (old .exit)) (now (new .exit)) (now (states .exit)) (now (numbers .entry)) (now (picture .exit)) (now (rows .exit)))
+        ≡ dataByte byte (arrived at (world p (buffers (now (old .entry)) (now (new .entry)) (now (states .entry)) (now (numbers .entry)) (now (picture .entry)) (now (rows .entry))))) ⌝ }
+{
+    let q = arrive(p, at, old, new, states, numbers, picture);
+    data_byte(q, byte, old, new, rows)
+}
+
+// The call arrives, then the read.
+fn read_at(
+    p: Uc8253,
+    at: u64,
+    old: &mut [u8],
+    new: &[u8],
+    states: &mut [i64],
+    numbers: &[u8],
+    picture: &mut [u8],
+    rows: &mut [u64],
+) -> ByteRead
+    requires { ⌜ (p .config .optics .«full_swing» ≤ most) × (endsRefresh false at p ≡ true → everyState (p .config .optics .«full_swing») (now states) ≡ true) ⌝ }
+    ensures { λ r. ⌜ (world (r .chip) (buffers (now (old .exit)) (now (new .entry)) (now (states .exit)) (now (numbers .entry)) (now (picture .exit)) (now (rows .exit)))
+        ≡ reading (arrived at (world p (buffers (now (old .entry)) (now (new .entry)) (now (states .entry)) (now (numbers .entry)) (now (picture .entry)) (now (rows .entry)))))) × (r .byte ≡ readOf (arrived at (world p (buffers (now (old .entry)) (now (new .entry)) (now (states .entry)) (now (numbers .entry)) (now (picture .entry)) (now (rows .entry)))) .chip)) ⌝ }
+{
+    let q = arrive(p, at, old, new, states, numbers, picture);
+    read_byte(q, rows)
+}
+
+// The call arrives, then the edge of the reset line.
+fn reset_at(
+    p: Uc8253,
+    at: u64,
+    asserted: bool,
+    old: &mut [u8],
+    new: &[u8],
+    states: &mut [i64],
+    numbers: &[u8],
+    picture: &mut [u8],
+    rows: &mut [u64],
+) -> Uc8253
+    requires { ⌜ tests.turnedBack asserted at (world p (buffers (now old) (now new) (now states) (now numbers) (now picture) (now rows))) ≡ 0 ⌝ }
+    ensures { λ r. ⌜ world r (buffers (now (old .exit)) (now (new .entry)) (now (states .exit)) (now (numbers .entry)) (now (picture .exit)) (now (rows .exit)))
+        ≡ resetEdge asserted (arrived at (world p (buffers (now (old .entry)) (now (new .entry)) (now (states .entry)) (now (numbers .entry)) (now (picture .entry)) (now (rows .entry))))) ⌝ }
+{
+    let q = arrive(p, at, old, new, states, numbers, picture);
+    reset_edge(q, asserted, states, numbers, picture, rows)
+}
+
 // A command byte (D/C# low).
 pub fn write_command(
     p: Uc8253,
@@ -125,8 +213,7 @@ pub fn write_command(
     if refused != 0 {
         return Answer { chip: p, refused };
     }
-    let q = arrive(p, at, old, new, states, numbers, picture);
-    let chip = command_byte(q, command, old, new, numbers, rows);
+    let chip = command_at(p, at, command, old, new, states, numbers, picture, rows);
     Answer { chip, refused: 0 }
 }
 
@@ -150,8 +237,7 @@ pub fn write_data(
     if refused != 0 {
         return Answer { chip: p, refused };
     }
-    let q = arrive(p, at, old, new, states, numbers, picture);
-    let chip = data_byte(q, byte, old, new, rows);
+    let chip = data_at(p, at, byte, old, new, states, numbers, picture, rows);
     Answer { chip, refused: 0 }
 }
 
@@ -179,8 +265,7 @@ pub fn read_data(
             byte: Read::Nothing,
         };
     }
-    let q = arrive(p, at, old, new, states, numbers, picture);
-    let r = read_byte(q, rows);
+    let r = read_at(p, at, old, new, states, numbers, picture, rows);
     let chip = r.chip;
     let byte = r.byte;
     ReadAnswer {
@@ -210,8 +295,7 @@ pub fn set_reset(
     if refused != 0 {
         return Answer { chip: p, refused };
     }
-    let q = arrive(p, at, old, new, states, numbers, picture);
-    let chip = reset_edge(q, asserted, states, numbers, picture, rows);
+    let chip = reset_at(p, at, asserted, old, new, states, numbers, picture, rows);
     Answer { chip, refused: 0 }
 }
 

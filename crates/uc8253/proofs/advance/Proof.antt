@@ -1,3 +1,7 @@
+use Rattle.controller.specs.World.{World, world, buffers}
+use Rattle.uc8253.proofs.ByCase.{after}
+use Rattle.uc8253.proofs.Called.{called-no, called-yes, read-no, read-yes, ready-arrive, ready-after}
+use mathlib.Core.Path.{refl, sym, ap, _∙_}
 use borrow.Author.Needs.{needs}
 use Rattle.uc8253.proofs.advance.Statement.{statement}
 use Rattle.uc8253.proofs.advance.Tie as tie
@@ -36,11 +40,11 @@ same-length-6 c = search needs
 
 -- src/lib.rt:236:9
 returns : tie.Need-returns
-returns c = ?
+returns c = (called-no _ _ _ _ (c .before .turned-back .ensures) _ (c .if1 .taken), c .before .turned-back .ensures)
 
 -- src/lib.rt:238:9
 arrive-requires : tie.Need-arrive-requires
-arrive-requires c κs = ?
+arrive-requires c κs = ready-arrive _ _ _ (sym (c .before .before .before .before .before .before .turned-back .ensures) ∙ c .before .before .before .before .before .if1 .left)
 
 -- src/lib.rt:220:1
 same-length-7 : tie.Need-same-length-7
@@ -68,7 +72,7 @@ same-length-12 c = search needs
 
 -- src/lib.rt:220:1
 returns-2 : tie.Need-returns-2
-returns-2 c = ?
+returns-2 c = (called-yes _ _ _ _ (c .before .before .before .before .before .before .before .before .before .before .before .before .turned-back .ensures) _ _ (c .before .before .before .before .before .before .before .before .before .before .before .if1 .left) (c .before .before .before .before .before .arrive .ensures (c .before .before .before .before .before .before .before .before .before .before .before .before .before .before .before .before .before .before .before .before .before .before .before .before .args .rows .now)), sym (c .before .before .before .before .before .before .before .before .before .before .before .if1 .left) ∙ c .before .before .before .before .before .before .before .before .before .before .before .before .turned-back .ensures)
 
 pub advance-spec : {M : Type 1} → statement M
 advance-spec =

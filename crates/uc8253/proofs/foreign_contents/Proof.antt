@@ -1,3 +1,6 @@
+use Rattle.controller.proofs.Chain.{yes, no}
+use mathlib.Core.Path.{refl, sym, _∙_}
+use Rattle.uc8253.specs.Steps.{seven}
 use borrow.Author.Needs.{needs}
 use Rattle.uc8253.proofs.foreign_contents.Statement.{statement}
 use Rattle.uc8253.proofs.foreign_contents.Tie as tie
@@ -16,15 +19,18 @@ all-numbers-requires c κs = search needs
 
 -- src/lib.rt:101:13
 returns : tie.Need-returns
-returns c = ?
+unfolding seven
+returns c = yes _ (sym (c .before .before .before .all-states .ensures) ∙ c .before .before .if1 .taken) (yes _ (sym (c .before .all-numbers .ensures) ∙ c .if2 .taken) refl)
 
 -- src/lib.rt:103:9
 returns-2 : tie.Need-returns-2
-returns-2 c = ?
+unfolding seven
+returns-2 c = yes _ (sym (c .before .before .before .all-states .ensures) ∙ c .before .before .if1 .taken) (no _ (sym (c .before .all-numbers .ensures) ∙ c .if2 .left) refl)
 
 -- src/lib.rt:96:1
 returns-3 : tie.Need-returns-3
-returns-3 c = ?
+unfolding seven
+returns-3 c = no _ (sym (c .before .all-states .ensures) ∙ c .if1 .left) refl
 
 pub foreign-contents-spec : {M : Type 1} → statement M
 foreign-contents-spec =

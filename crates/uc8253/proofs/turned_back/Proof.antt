@@ -1,3 +1,7 @@
+use Rattle.uc8253.proofs.Refusals.{not-both, contents}
+use Rattle.controller.proofs.Chain.{yes, no}
+use mathlib.Core.Path.{refl, sym, _∙_}
+use Rattle.controller.specs.TurnedBack.{turnedBack}
 use borrow.Author.Needs.{needs}
 use Rattle.uc8253.proofs.turned_back.Statement.{statement}
 use Rattle.uc8253.proofs.turned_back.Tie as tie
@@ -14,7 +18,8 @@ foreign-requires c κs = search needs
 
 -- src/lib.rt:75:9
 returns : tie.Need-returns
-returns c = ?
+unfolding turnedBack
+returns c = yes _ (sym (c .before .foreign .ensures) ∙ c .if1 .taken) refl
 
 -- src/lib.rt:78:8
 lengths-fit-requires : tie.Need-lengths-fit-requires
@@ -30,15 +35,18 @@ foreign-contents-requires c κs = search needs
 
 -- src/lib.rt:88:13
 returns-2 : tie.Need-returns-2
-returns-2 c = ?
+unfolding turnedBack
+returns-2 c = no _ (sym (c .before .before .before .before .before .before .before .foreign .ensures) ∙ c .before .before .before .before .before .before .if1 .left) (yes _ (sym (c .before .before .before .before .lengths-fit .ensures) ∙ c .before .before .before .if2 .taken) (contents _ _ (sym (c .before .before .ends-refresh .ensures) ∙ c .before .if3 .taken) (c .foreign-contents .ensures)))
 
 -- src/lib.rt:90:9
 returns-3 : tie.Need-returns-3
-returns-3 c = ?
+unfolding turnedBack
+returns-3 c = no _ (sym (c .before .before .before .before .before .before .foreign .ensures) ∙ c .before .before .before .before .before .if1 .left) (yes _ (sym (c .before .before .before .lengths-fit .ensures) ∙ c .before .before .if2 .taken) (no _ (not-both _ (sym (c .before .ends-refresh .ensures) ∙ c .if3 .left)) refl))
 
 -- src/lib.rt:61:1
 returns-4 : tie.Need-returns-4
-returns-4 c = ?
+unfolding turnedBack
+returns-4 c = no _ (sym (c .before .before .before .before .foreign .ensures) ∙ c .before .before .before .if1 .left) (no _ (sym (c .before .lengths-fit .ensures) ∙ c .if2 .left) refl)
 
 pub turned-back-spec : {M : Type 1} → statement M
 turned-back-spec =

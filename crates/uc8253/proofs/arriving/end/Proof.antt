@@ -1,3 +1,8 @@
+use Rattle.uc8253.proofs.ByCase.{by-work, record-of}
+use Rattle.controller.specs.TurnedBack.{refreshRuns}
+use Rattle.controller.specs.Arrives.{rest}
+use Rattle.controller.specs.World.{World, onChip, withOperation}
+use mathlib.Core.Path.{refl, ap, _∙_}
 use borrow.Author.Needs.{needs}
 use Rattle.uc8253.proofs.arriving.end.Statement.{statement}
 use Rattle.uc8253.proofs.arriving.end.Tie as tie
@@ -58,7 +63,7 @@ enum-known-work c = search needs
 
 -- src/arriving.rt:63:17
 finish-whole-requires : tie.Need-finish-whole-requires
-finish-whole-requires c κs = ?
+finish-whole-requires c κs = (c .before .before .before .before .before .before .before .before .before .before .before .pre .0, c .before .before .before .before .before .before .before .before .before .before .before .pre .1 (ap refreshRuns (c .before .before .before .before .work .given .1)))
 
 -- src/arriving.rt:64:13
 rested-requires-3 : tie.Need-rested-requires-3
@@ -66,27 +71,27 @@ rested-requires-3 c κs = search needs
 
 -- src/arriving.rt:41:1
 returns : tie.Need-returns
-returns c = ?
+returns c = λ rows. by-work _ _ _ (c .enum-told .given .1) refl
 
 -- src/arriving.rt:41:1
 returns-2 : tie.Need-returns-2
-returns-2 c = ?
+returns-2 c = λ rows. by-work _ _ _ (c .before .enum-told2 .given .1) (record-of _ (c .powered .ensures))
 
 -- src/arriving.rt:41:1
 returns-3 : tie.Need-returns-3
-returns-3 c = ?
+returns-3 c = λ rows. by-work _ _ _ (c .before .enum-told3 .given .1) (record-of _ (c .powered2 .ensures))
 
 -- src/arriving.rt:41:1
 returns-4 : tie.Need-returns-4
-returns-4 c = ?
+returns-4 c = λ rows. by-work _ _ _ (c .before .enum-told4 .given .1) (record-of _ (c .fall-asleep .ensures))
 
 -- src/arriving.rt:41:1
 returns-5 : tie.Need-returns-5
-returns-5 c = ?
+returns-5 c = λ rows. by-work _ _ _ (c .before .enum-told5 .given .1) (record-of _ (c .rested .ensures))
 
 -- src/arriving.rt:41:1
 returns-6 : tie.Need-returns-6
-returns-6 c = ?
+returns-6 c = λ rows. by-work _ _ _ (c .before .enum-told6 .given .1) (record-of _ (c .rested2 .ensures))
 
 -- src/arriving.rt:41:1
 same-length : tie.Need-same-length
@@ -102,7 +107,7 @@ same-length-3 c = search needs
 
 -- src/arriving.rt:41:1
 returns-7 : tie.Need-returns-7
-returns-7 c = ?
+returns-7 c = λ rows. by-work _ _ _ (c .before .before .before .before .before .before .before .before .before .before .before .work .given .1) (record-of _ (c .rested3 .ensures) ∙ ap (λ (w : World). onChip (withOperation rest) w) (c .before .before .before .before .before .before .finish-whole .ensures rows))
 
 pub end-spec : {M : Type 1} → statement M
 end-spec =

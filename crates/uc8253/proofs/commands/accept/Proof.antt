@@ -1,3 +1,10 @@
+use Rattle.uc8253.proofs.Changed.{changed, then, in-case}
+use Rattle.command.specs.declared.kinds.Kind.the-variants as kind
+use Rattle.command.specs.declared.kinds.Kind.{Kind}
+use Rattle.controller.specs.declared.Current.the-variants as current
+use Rattle.controller.specs.Command.{sortedBy, begun, executed}
+use Rattle.controller.specs.World.{World, world, buffers, withCurrent}
+use mathlib.Core.Path.{sym, ap, _∙_}
 use borrow.Author.Needs.{needs}
 use Rattle.uc8253.proofs.commands.accept.Statement.{statement}
 use Rattle.uc8253.proofs.commands.accept.Tie as tie
@@ -67,7 +74,7 @@ same-length c = search needs
 
 -- src/commands.rt:120:1
 returns : tie.Need-returns
-returns c = ?
+returns c = λ states picture. let g = c .before .before .before .before .before .before .before .before .before .before .before .before .before .args in let w = world (g .p) (buffers (g .old .now) (g .new .now) states (g .table-numbers .now) picture (g .rows .now)) in in-case (λ (x : Kind). sortedBy x (g .command) w) (sym (c .before .before .before .before .before .before .before .kind .ensures) ∙ c .before .before .before .before .before .enum-told .given .1) (then (withCurrent current.Ignoring) (c .with-current .ensures) (c .before .before .before .tell .ensures (w .lent)))
 
 -- src/commands.rt:120:1
 same-length-2 : tie.Need-same-length-2
@@ -75,7 +82,7 @@ same-length-2 c = search needs
 
 -- src/commands.rt:120:1
 returns-2 : tie.Need-returns-2
-returns-2 c = ?
+returns-2 c = λ states picture. let g = c .before .before .before .before .before .before .before .before .before .before .before .before .before .before .args in let w = world (g .p) (buffers (g .old .now) (g .new .now) states (g .table-numbers .now) picture (g .rows .now)) in in-case (λ (x : Kind). sortedBy x (g .command) w) (sym (c .before .before .before .before .before .before .before .before .kind .ensures) ∙ c .before .before .before .before .before .before .sort .given .1) (then (begun (g .command) (kind.Unsupported _)) (c .begin .ensures) (c .before .before .before .tell2 .ensures (w .lent)))
 
 -- src/commands.rt:120:1
 same-length-3 : tie.Need-same-length-3
@@ -87,7 +94,7 @@ same-length-4 c = search needs
 
 -- src/commands.rt:120:1
 returns-3 : tie.Need-returns-3
-returns-3 c = ?
+returns-3 c = λ states picture. let g = c .before .before .before .before .before .before .before .before .before .before .before .before .before .before .before .before .before .args in let w = world (g .p) (buffers (g .old .now) (g .new .now) states (g .table-numbers .now) picture (g .rows .now)) in in-case (λ (x : Kind). sortedBy x (g .command) w) (sym (c .before .before .before .before .before .before .before .before .before .before .before .kind .ensures) ∙ c .before .before .before .before .before .before .before .before .before .sort2 .given .1) (c .before .before .before .before .execute .ensures states picture ∙ ap (λ (v : World). executed (g .command) v) (changed (begun (g .command) (kind.Write _)) (g .p) (c .before .before .before .before .before .before .before .begin2 .ensures)))
 
 -- src/commands.rt:120:1
 same-length-5 : tie.Need-same-length-5
@@ -99,7 +106,7 @@ same-length-6 c = search needs
 
 -- src/commands.rt:120:1
 returns-4 : tie.Need-returns-4
-returns-4 c = ?
+returns-4 c = λ states picture. let g = c .before .before .before .before .before .before .before .before .before .before .before .before .before .before .before .before .args in let w = world (g .p) (buffers (g .old .now) (g .new .now) states (g .table-numbers .now) picture (g .rows .now)) in in-case (λ (x : Kind). sortedBy x (g .command) w) (sym (c .before .before .before .before .before .before .before .before .before .before .kind .ensures) ∙ c .before .before .before .before .before .before .before .before .enum-told2 .given .1) (c .before .before .before .before .execute2 .ensures states picture ∙ ap (λ (v : World). executed (g .command) v) (changed (begun (g .command) kind.Read) (g .p) (c .before .before .before .before .before .before .before .begin3 .ensures)))
 
 pub accept-spec : {M : Type 1} → statement M
 accept-spec =

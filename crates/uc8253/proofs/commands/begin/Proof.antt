@@ -1,3 +1,4 @@
+use Rattle.controller.specs.Command.{begun}
 use borrow.Author.Needs.{needs}
 use Rattle.uc8253.proofs.commands.begin.Statement.{statement}
 use Rattle.uc8253.proofs.commands.begin.Tie as tie
@@ -16,7 +17,8 @@ with-current-requires c κs = search needs
 
 -- src/commands.rt:51:1
 returns : tie.Need-returns
-returns c = ?
+unfolding begun
+returns c = simp (c .with-current .ensures, c .before .written .ensures)
 
 pub begin-spec : {M : Type 1} → statement M
 begin-spec = tie.close (tie.spec written-requires with-current-requires returns)

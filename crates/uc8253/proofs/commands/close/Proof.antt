@@ -1,3 +1,10 @@
+use Rattle.uc8253.proofs.Changed.{then, in-case}
+use Rattle.controller.specs.declared.notes.Note.{Note}
+use Rattle.controller.specs.declared.Current.the-variants as current
+use Rattle.controller.specs.declared.Current.{Current}
+use Rattle.controller.specs.World.{world, withRows, withCurrent, told}
+use mathlib.Core.Path.{ap, _∙_}
+use Rattle.controller.specs.Command.{closed, closedBy}
 use borrow.Author.Needs.{needs}
 use Rattle.uc8253.proofs.commands.close.Statement.{statement}
 use Rattle.uc8253.proofs.commands.close.Tie as tie
@@ -33,11 +40,13 @@ with-current-requires c κs = search needs
 
 -- src/commands.rt:35:1
 returns : tie.Need-returns
-returns c = ?
+unfolding closed
+returns c = λ b. simp (c .enum-told .given .1)
 
 -- src/commands.rt:35:1
 returns-2 : tie.Need-returns-2
-returns-2 c = ?
+unfolding closed
+returns-2 c = λ b. simp (c .enum-told2 .given .1)
 
 -- src/commands.rt:35:1
 same-length : tie.Need-same-length
@@ -45,7 +54,8 @@ same-length c = search needs
 
 -- src/commands.rt:35:1
 returns-3 : tie.Need-returns-3
-returns-3 c = ?
+unfolding closed
+returns-3 c = λ b. let g = c .before .before .before .before .before .before .before .before .before .before .before .args in let w = world (g .p) (withRows (g .rows .now) b) in in-case (λ (x : Current). closedBy x w) (c .before .before .before .before .before .before .before .current .given .1) (then (withCurrent current.Ignoring) (c .with-current .ensures) (c .before .before .before .told .ensures b ∙ ap (λ (n : Note). told n w) (c .before .before .before .before .closing .ensures)))
 
 pub close-spec : {M : Type 1} → statement M
 close-spec =

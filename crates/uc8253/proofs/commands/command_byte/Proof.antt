@@ -1,3 +1,6 @@
+use Rattle.controller.specs.Command.{passed, commandByte}
+use Rattle.controller.specs.World.{World, world, buffers}
+use mathlib.Core.Path.{ap, _∙_}
 use borrow.Author.Needs.{needs}
 use Rattle.uc8253.proofs.commands.command_byte.Statement.{statement}
 use Rattle.uc8253.proofs.commands.command_byte.Tie as tie
@@ -24,7 +27,8 @@ same-length-2 c = search needs
 
 -- src/commands.rt:179:1
 returns : tie.Need-returns
-returns c = ?
+unfolding commandByte
+returns c = λ states picture. let g = c .before .before .before .before .before .before .before .before .before .before .before .before .before .before .before .args in let w = world (g .p) (buffers (g .old .now) (g .new .now) states (g .table-numbers .now) picture (g .rows .now)) in c .before .before .before .before .pass .ensures states picture ∙ ap (λ (v : World). passed (g .command) v) (c .before .before .before .before .before .before .before .before .before .close .ensures (w .lent))
 
 pub command-byte-spec : {M : Type 1} → statement M
 command-byte-spec =

@@ -1,3 +1,8 @@
+use Rattle.uc8253.proofs.Changed.{changed}
+use Rattle.controller.specs.declared.Work.the-variants as work
+use Rattle.controller.specs.Arrives.{starting}
+use Rattle.uc8253.proofs.Executed.{pon-on, pon-off, pof-on, pof-off, drf, ptin, ptout, dtm, dsp, other}
+use Rattle.controller.specs.World.{world, buffers}
 use borrow.Author.Needs.{needs}
 use Rattle.uc8253.proofs.commands.execute.Statement.{statement}
 use Rattle.uc8253.proofs.commands.execute.Tie as tie
@@ -8,7 +13,7 @@ use Rattle.uc8253.proofs.telling.start.Reads as start-reads
 
 -- src/commands.rt:88:17
 returns : tie.Need-returns
-returns c = ?
+returns c = λ states picture. pon-on _ (c .before .match .keys1) (c .if1 .taken)
 
 -- src/commands.rt:90:13
 start-requires : tie.Need-start-requires
@@ -20,7 +25,7 @@ start-requires-2 c κs = search needs
 
 -- src/commands.rt:94:17
 returns-2 : tie.Need-returns-2
-returns-2 c = ?
+returns-2 c = λ states picture. let g = c .before .before .before .before .before .before .before .args in let w = world (g .p) (buffers (g .old .now) (g .new .now) states (g .table-numbers .now) picture (g .rows .now)) in pof-on w (c .before .before .match .keys2) (c .before .if2 .taken) (changed (starting work.PowerOff (g .p .config .timing .«power_off»)) (g .p) (c .start2 .ensures))
 
 -- src/commands.rt:98:16
 refresh-requires : tie.Need-refresh-requires
@@ -28,11 +33,11 @@ refresh-requires c κs = search needs
 
 -- src/commands.rt:73:1
 returns-3 : tie.Need-returns-3
-returns-3 c = ?
+returns-3 c = λ states picture. let g = c .before .before .before .before .before .before .before .args in let w = world (g .p) (buffers (g .old .now) (g .new .now) states (g .table-numbers .now) picture (g .rows .now)) in pon-off w (c .before .before .match .keys1) (c .before .if1 .left) (changed (starting work.PowerOn (g .p .config .timing .«power_on»)) (g .p) (c .start .ensures))
 
 -- src/commands.rt:73:1
 returns-4 : tie.Need-returns-4
-returns-4 c = ?
+returns-4 c = λ states picture. pof-off _ (c .before .match .keys2) (c .if2 .left)
 
 -- src/commands.rt:73:1
 same-length : tie.Need-same-length
@@ -44,27 +49,27 @@ same-length-2 c = search needs
 
 -- src/commands.rt:73:1
 returns-5 : tie.Need-returns-5
-returns-5 c = ?
+returns-5 c = λ states picture. let g = c .before .before .before .before .before .before .before .before .before .before .before .before .args in let w = world (g .p) (buffers (g .old .now) (g .new .now) states (g .table-numbers .now) picture (g .rows .now)) in drf w (c .before .before .before .before .before .before .before .match .keys3) (c .before .before .before .before .refresh .ensures states picture)
 
 -- src/commands.rt:73:1
 returns-6 : tie.Need-returns-6
-returns-6 c = ?
+returns-6 c = λ states picture. let g = c .before .before .before .before .before .before .args in let w = world (g .p) (buffers (g .old .now) (g .new .now) states (g .table-numbers .now) picture (g .rows .now)) in ptin w (c .before .match .keys4)
 
 -- src/commands.rt:73:1
 returns-7 : tie.Need-returns-7
-returns-7 c = ?
+returns-7 c = λ states picture. let g = c .before .before .before .before .before .before .args in let w = world (g .p) (buffers (g .old .now) (g .new .now) states (g .table-numbers .now) picture (g .rows .now)) in ptout w (c .before .match .keys5)
 
 -- src/commands.rt:73:1
 returns-8 : tie.Need-returns-8
-returns-8 c = ?
+returns-8 c = λ states picture. let g = c .before .before .before .before .before .before .args in let w = world (g .p) (buffers (g .old .now) (g .new .now) states (g .table-numbers .now) picture (g .rows .now)) in dtm w (c .before .match .keys6)
 
 -- src/commands.rt:73:1
 returns-9 : tie.Need-returns-9
-returns-9 c = ?
+returns-9 c = λ states picture. let g = c .before .before .before .before .before .before .args in let w = world (g .p) (buffers (g .old .now) (g .new .now) states (g .table-numbers .now) picture (g .rows .now)) in dsp w (c .before .match .keys7)
 
 -- src/commands.rt:73:1
 returns-10 : tie.Need-returns-10
-returns-10 c = ?
+returns-10 c = λ states picture. let g = c .before .before .before .before .before .args in let w = world (g .p) (buffers (g .old .now) (g .new .now) states (g .table-numbers .now) picture (g .rows .now)) in other w (c .match .rest)
 
 pub execute-spec : {M : Type 1} → statement M
 execute-spec =

@@ -1,3 +1,9 @@
+use Rattle.uc8253.proofs.Changed.{then, in-case}
+use Rattle.controller.specs.declared.notes.Note.{Note}
+use Rattle.controller.specs.declared.Current.the-variants as current
+use Rattle.controller.specs.Command.{passedBy, passed}
+use Rattle.controller.specs.World.{world, buffers, withCurrent}
+use mathlib.Core.Path.{sym, _∙_}
 use borrow.Author.Needs.{needs}
 use Rattle.uc8253.proofs.commands.pass.Statement.{statement}
 use Rattle.uc8253.proofs.commands.pass.Tie as tie
@@ -42,7 +48,8 @@ same-length-2 c = search needs
 
 -- src/commands.rt:155:1
 returns : tie.Need-returns
-returns c = ?
+unfolding passed
+returns c = λ states picture. let g = c .before .before .before .before .before .before .before .before .before .before .before .before .before .before .before .before .args in let w = world (g .p) (buffers (g .old .now) (g .new .now) states (g .table-numbers .now) picture (g .rows .now)) in in-case (λ (n : Note). passedBy n (g .command) w) (sym (c .before .before .before .before .before .before .before .before .before .barred .ensures) ∙ c .before .before .before .before .before .before .before .enum-told .given .1) (c .before .before .before .before .accept .ensures states picture)
 
 -- src/commands.rt:155:1
 same-length-3 : tie.Need-same-length-3
@@ -50,7 +57,8 @@ same-length-3 c = search needs
 
 -- src/commands.rt:155:1
 returns-2 : tie.Need-returns-2
-returns-2 c = ?
+unfolding passed
+returns-2 c = λ states picture. let g = c .before .before .before .before .before .before .before .before .before .before .before .before .before .before .before .args in let w = world (g .p) (buffers (g .old .now) (g .new .now) states (g .table-numbers .now) picture (g .rows .now)) in in-case (λ (n : Note). passedBy n (g .command) w) (sym (c .before .before .before .before .before .before .before .before .barred .ensures) ∙ c .before .before .before .before .before .before .note .given .1) (then (withCurrent current.Ignoring) (c .with-current .ensures) (c .before .before .before .tell .ensures (w .lent)))
 
 pub pass-spec : {M : Type 1} → statement M
 pass-spec =

@@ -1,3 +1,9 @@
+use Rattle.uc8253.proofs.Changed.{then, in-case}
+use Rattle.controller.specs.declared.Current.the-variants as current
+use Rattle.controller.specs.declared.Current.{Current}
+use Rattle.controller.specs.DataByte.{dataByte, givenBy}
+use Rattle.controller.specs.World.{world, buffers, withCurrent}
+use mathlib.Core.Path.{refl}
 use borrow.Author.Needs.{needs}
 use Rattle.uc8253.proofs.data_bytes.data_byte.Statement.{statement}
 use Rattle.uc8253.proofs.data_bytes.data_byte.Tie as tie
@@ -37,11 +43,13 @@ same-length c = search needs
 
 -- src/data_bytes.rt:147:1
 returns : tie.Need-returns
-returns c = ?
+unfolding dataByte
+returns c = λ states numbers picture. let g = c .before .before .before .before .before .before .before .before .before .before .before .args in let w = world (g .p) (buffers (g .old .now) (g .new .now) states numbers picture (g .rows .now)) in in-case (λ (x : Current). givenBy x (g .byte) w) (c .before .before .before .before .before .enum-told .given .1) (then (withCurrent current.Ignoring) (c .with-current .ensures) (c .before .before .before .tell .ensures (w .lent)))
 
 -- src/data_bytes.rt:147:1
 returns-2 : tie.Need-returns-2
-returns-2 c = ?
+unfolding dataByte
+returns-2 c = λ states numbers picture. let g = c .before .before .before .before .before .before .args in let w = world (g .p) (buffers (g .old .now) (g .new .now) states numbers picture (g .rows .now)) in in-case (λ (x : Current). givenBy x (g .byte) w) (c .enum-told2 .given .1) refl
 
 -- src/data_bytes.rt:147:1
 same-length-2 : tie.Need-same-length-2
@@ -57,7 +65,8 @@ same-length-4 c = search needs
 
 -- src/data_bytes.rt:147:1
 returns-3 : tie.Need-returns-3
-returns-3 c = ?
+unfolding dataByte
+returns-3 c = λ states numbers picture. let g = c .before .before .before .before .before .before .before .before .before .before .before .before .before .before .before .before .before .args in let w = world (g .p) (buffers (g .old .now) (g .new .now) states numbers picture (g .rows .now)) in in-case (λ (x : Current). givenBy x (g .byte) w) (c .before .before .before .before .before .before .before .before .before .before .before .current .given .1) (c .before .before .before .before .before .before .take-byte .ensures states numbers picture)
 
 pub data-byte-spec : {M : Type 1} → statement M
 data-byte-spec =

@@ -11,7 +11,7 @@ counted-requires c κs = search needs
 
 -- src/data_bytes.rt:26:1
 returns : tie.Need-returns
-returns c = ?
+returns c = simp (c .counted .ensures)
 
 pub more-spec : {M : Type 1} → statement M
 more-spec = tie.close (tie.spec counted-requires returns)

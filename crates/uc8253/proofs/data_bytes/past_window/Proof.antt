@@ -1,3 +1,6 @@
+use Rattle.uc8253.proofs.Changed.{changed, then}
+use Rattle.controller.specs.DataByte.{pastWindow, under, pastOf}
+use Rattle.controller.proofs.Chain.{yes, no}
 use borrow.Author.Needs.{needs}
 use Rattle.uc8253.proofs.data_bytes.past_window.Statement.{statement}
 use Rattle.uc8253.proofs.data_bytes.past_window.Tie as tie
@@ -12,7 +15,8 @@ with-current-requires c κs = search needs
 
 -- src/data_bytes.rt:55:9
 returns : tie.Need-returns
-returns c = ?
+unfolding pastWindow
+returns c = λ b. let g = c .before .before .before .args in yes _ (c .before .if1 .taken) (changed (under (g .a)) (g .p) (c .with-current .ensures))
 
 -- src/data_bytes.rt:59:9
 tell-requires : tie.Need-tell-requires
@@ -28,7 +32,8 @@ same-length c = search needs
 
 -- src/data_bytes.rt:51:1
 returns-2 : tie.Need-returns-2
-returns-2 c = ?
+unfolding pastWindow
+returns-2 c = λ b. no _ (c .before .before .before .before .before .if1 .left) (then (under (pastOf (c .before .before .before .before .before .before .before .args .a))) (c .with-current2 .ensures) (c .before .before .before .tell .ensures b))
 
 pub past-window-spec : {M : Type 1} → statement M
 past-window-spec =

@@ -1,3 +1,8 @@
+use Rattle.uc8253.proofs.PixelByte.{left-area, moved, older, newer}
+use Rattle.controller.specs.World.{world, withRows, withOld, withNew}
+use Rattle.controller.specs.DataByte.{olderByte, newerByte}
+use borrow.Author.Tests.{lt-ltb, le-ltb}
+use Rattle.controller.proofs.Chain.{yes}
 use borrow.Author.Needs.{needs}
 use Rattle.uc8253.proofs.data_bytes.pixel_byte.Statement.{statement}
 use Rattle.uc8253.proofs.data_bytes.pixel_byte.Tie as tie
@@ -23,7 +28,8 @@ same-length c = search needs
 
 -- src/data_bytes.rt:71:9
 returns : tie.Need-returns
-returns c = ?
+unfolding olderByte newerByte
+returns c = let g = c .before .before .before .before .before .before .before .before .before .before .before .args in let h = left-area _ (c .before .before .before .before .before .before .before .written .ensures) (lt-ltb _ _ (c .before .before .before .before .if1 .taken)) in (λ b. yes _ h (c .before .before .past-window .ensures (withOld (g .plane .now) b)), λ b. yes _ h (c .before .before .past-window .ensures (withNew (g .plane .now) b)))
 
 -- src/data_bytes.rt:73:5
 write-requires : tie.Need-write-requires
@@ -43,7 +49,7 @@ same-length-2 c = search needs
 
 -- src/data_bytes.rt:64:1
 returns-2 : tie.Need-returns-2
-returns-2 c = ?
+returns-2 c = let g = c .before .before .before .before .before .before .before .before .before .before .before .before .before .before .args in let p = g .p in let a = g .a in let d = g .byte in let e = c .before .before .before .before .before .before .before .before .before .before .written .ensures in let m = moved a p e (c .before .next .ensures) (c .with-current .ensures) in let t = le-ltb _ _ (c .before .before .before .before .before .before .before .if1 .left) in (λ b. older a d (world p (withRows (g .rows .now) (withOld (g .plane .now) b))) e t m (c .before .before .before .before .before .write .ensures), λ b. newer a d (world p (withRows (g .rows .now) (withNew (g .plane .now) b))) e t m (c .before .before .before .before .before .write .ensures))
 
 pub pixel-byte-spec : {M : Type 1} → statement M
 pixel-byte-spec =

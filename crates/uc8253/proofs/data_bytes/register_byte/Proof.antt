@@ -16,7 +16,7 @@ with-byte-requires-2 c κs = search needs
 
 -- src/data_bytes.rt:93:1
 returns : tie.Need-returns
-returns c = ?
+returns c = simp (c .with-byte2 .ensures, c .before .with-byte .ensures)
 
 pub register-byte-spec : {M : Type 1} → statement M
 register-byte-spec = tie.close (tie.spec with-byte-requires with-byte-requires-2 returns)

@@ -21,7 +21,7 @@ start-requires c κs = search needs
 
 -- src/data_bytes.rt:81:1
 returns : tie.Need-returns
-returns c = ?
+returns c = simp (c .start .ensures, c .before .before .reset2 .ensures, c .before .before .before .reset .ensures)
 
 pub soft-reset-spec : {M : Type 1} → statement M
 soft-reset-spec = tie.close (tie.spec reset-requires reset-requires-2 start-requires returns)

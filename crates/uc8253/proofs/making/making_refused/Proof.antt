@@ -1,3 +1,7 @@
+use Rattle.uc8253.proofs.Refusals.{none, some}
+use Rattle.controller.proofs.Chain.{yes, no}
+use mathlib.Core.Path.{refl, sym, _∙_}
+use Rattle.controller.specs.TurnedBack.{makingRefused}
 use borrow.Author.Needs.{needs}
 use Rattle.uc8253.proofs.making.making_refused.Statement.{statement}
 use Rattle.uc8253.proofs.making.making_refused.Tie as tie
@@ -17,7 +21,8 @@ number-of-requires c κs = search needs
 
 -- src/making.rt:191:9
 returns : tie.Need-returns
-returns c = ?
+unfolding makingRefused
+returns c = no _ (some (c .before .number-of .ensures ∙ c .before .before .validate .ensures) (c .if1 .taken)) (c .before .number-of .ensures ∙ c .before .before .validate .ensures)
 
 -- src/making.rt:193:8
 lengths-fit-requires : tie.Need-lengths-fit-requires
@@ -25,11 +30,13 @@ lengths-fit-requires c κs = search needs
 
 -- src/making.rt:202:9
 returns-2 : tie.Need-returns-2
-returns-2 c = ?
+unfolding makingRefused
+returns-2 c = yes _ (none (c .before .before .before .number-of .ensures ∙ c .before .before .before .before .validate .ensures) (c .before .before .if1 .left)) (yes _ (sym (c .before .lengths-fit .ensures) ∙ c .if2 .taken) refl)
 
 -- src/making.rt:178:1
 returns-3 : tie.Need-returns-3
-returns-3 c = ?
+unfolding makingRefused
+returns-3 c = yes _ (none (c .before .before .before .number-of .ensures ∙ c .before .before .before .before .validate .ensures) (c .before .before .if1 .left)) (no _ (sym (c .before .lengths-fit .ensures) ∙ c .if2 .left) refl)
 
 pub making-refused-spec : {M : Type 1} → statement M
 making-refused-spec =

@@ -1,3 +1,10 @@
+use Rattle.uc8253.specs.Steps.{fresh}
+use Rattle.uc8253.proofs.FirstWorld.{at-level, made-first, made-none}
+use Rattle.uc8253.proofs.Refusals.{some}
+use mathlib.Core.Path.{ap, _∙_}
+use Rattle.controller.specs.World.{buffers}
+use native.Mathlib.Omega.{arith}
+use lib.ListN.{length}
 use borrow.Author.Needs.{needs}
 use Rattle.uc8253.proofs.making.power_on.Statement.{statement}
 use Rattle.uc8253.proofs.making.power_on.Tie as tie
@@ -46,7 +53,7 @@ same-length-6 c = search needs
 
 -- src/making.rt:224:9
 returns : tie.Need-returns
-returns c = ?
+returns c = (made-none (c .before .before .before .before .before .before .before .before .before .before .before .before .before .before .args .config) _ _ (some (c .before .before .making-refused .ensures) (c .before .if1 .taken)) (c .zeros .ensures), c .before .before .making-refused .ensures)
 
 -- src/making.rt:228:5
 fill-bytes-requires : tie.Need-fill-bytes-requires
@@ -86,19 +93,19 @@ fresh-requires c κs = search needs
 
 -- src/making.rt:208:1
 same-length-7 : tie.Need-same-length-7
-same-length-7 c = ?
+same-length-7 c = c .before .before .before .before .before .before .before .before .before .before .before .before .before .before .before .before .before .before .before .before .before .before .before .before .fill-bytes .kept .0
 
 -- src/making.rt:208:1
 same-length-8 : tie.Need-same-length-8
-same-length-8 c = ?
+same-length-8 c = c .before .before .before .before .before .before .before .before .before .before .before .before .before .before .before .before .before .before .before .before .fill-bytes2 .kept .0
 
 -- src/making.rt:208:1
 same-length-9 : tie.Need-same-length-9
-same-length-9 c = ?
+same-length-9 c = c .before .before .before .before .before .before .before .before .before .before .before .before .before .before .before .fill-states .kept .0
 
 -- src/making.rt:208:1
 same-length-10 : tie.Need-same-length-10
-same-length-10 c = ?
+same-length-10 c = c .before .before .before .before .before .before .before .before .before .before .before .before .fill-bytes3 .kept .0
 
 -- src/making.rt:208:1
 same-length-11 : tie.Need-same-length-11
@@ -110,7 +117,27 @@ same-length-12 c = search needs
 
 -- src/making.rt:208:1
 returns-2 : tie.Need-returns-2
-returns-2 c = ?
+returns-2 c =
+    let words = c .before .before .before .before in
+    let picture = words .before .before .before .before in
+    let numbers = picture .before .before .before .before in
+    let states = numbers .before .before .before in
+    let new = states .before .before .before .before .before in
+    let old = new .before .before .before .before in
+    let asked = old .before .before .before .before in
+    let start = asked .before .before .before .before .before .before .before .before .before .before .before .before in
+    let a = start .args in
+    made-first (a .config) (buffers (a .old .now) (a .new .now) (a .states .now) (a .numbers .now) (a .picture .now) (a .rows .now)) (c .fresh .result) _
+    (omega (arith, start .good .0)) (asked .making-refused .ensures) (old .before .before .before .if1 .left)
+    (record {
+      chip-is = c .fresh .ensures ∙ ap (fresh (a .config)) (c .before .reset .ensures);
+      old-is = old .fill-bytes .ensures;
+      new-is = new .fill-bytes2 .ensures;
+      states-is = at-level (length (a .states .now)) (states .fill-states .ensures) (states .before .level .ensures);
+      numbers-is = numbers .fill-bytes3 .ensures;
+      picture-is = picture .fill-bytes4 .ensures;
+      rows-is = words .fill-words .ensures;
+    })
 
 pub power-on-spec : {M : Type 1} → statement M
 power-on-spec =

@@ -1,3 +1,7 @@
+use Rattle.controller.proofs.Chain.{yes, no}
+use mathlib.Core.Path.{refl, sym, _∙_}
+use Rattle.controller.specs.Calls.{questionRefused, busyAnswer}
+use Rattle.controller.specs.TurnedBack.{lentRefused}
 use borrow.Author.Needs.{needs}
 use Rattle.uc8253.proofs.questions.busy_pin.Statement.{statement}
 use Rattle.uc8253.proofs.questions.busy_pin.Tie as tie
@@ -12,7 +16,8 @@ foreign-requires c κs = search needs
 
 -- src/questions.rt:85:9
 returns : tie.Need-returns
-returns c = ?
+unfolding lentRefused questionRefused busyAnswer
+returns c = (yes _ (sym (c .before .foreign .ensures) ∙ c .if1 .taken) refl, yes _ (sym (c .before .foreign .ensures) ∙ c .if1 .taken) refl)
 
 -- src/questions.rt:94:15
 busy-at-requires : tie.Need-busy-at-requires
@@ -20,7 +25,8 @@ busy-at-requires c κs = search needs
 
 -- src/questions.rt:81:1
 returns-2 : tie.Need-returns-2
-returns-2 c = ?
+unfolding lentRefused questionRefused busyAnswer
+returns-2 c = (no _ (sym (c .before .before .before .before .foreign .ensures) ∙ c .before .before .before .if1 .left) refl, no _ (sym (c .before .before .before .before .foreign .ensures) ∙ c .before .before .before .if1 .left) (c .busy-at .ensures))
 
 pub busy-pin-spec : {M : Type 1} → statement M
 busy-pin-spec = tie.close (tie.spec foreign-requires returns busy-at-requires returns-2)

@@ -1,3 +1,6 @@
+use Rattle.controller.proofs.Chain.{yes, no}
+use mathlib.Core.Path.{refl, sym, _∙_}
+use Rattle.controller.specs.TurnedBack.{lentRefused}
 use borrow.Author.Needs.{needs}
 use Rattle.uc8253.proofs.questions.lent_refused.Statement.{statement}
 use Rattle.uc8253.proofs.questions.lent_refused.Tie as tie
@@ -11,15 +14,18 @@ foreign-requires c κs = search needs
 
 -- src/questions.rt:49:9
 returns : tie.Need-returns
-returns c = ?
+unfolding lentRefused
+returns c = yes _ (sym (c .before .foreign .ensures) ∙ c .if1 .taken) refl
 
 -- src/questions.rt:52:9
 returns-2 : tie.Need-returns-2
-returns-2 c = ?
+unfolding lentRefused
+returns-2 c = no _ (sym (c .before .before .foreign .ensures) ∙ c .before .if1 .left) (yes _ (c .if2 .taken) refl)
 
 -- src/questions.rt:45:1
 returns-3 : tie.Need-returns-3
-returns-3 c = ?
+unfolding lentRefused
+returns-3 c = no _ (sym (c .before .before .foreign .ensures) ∙ c .before .if1 .left) (no _ (c .if2 .left) refl)
 
 pub lent-refused-spec : {M : Type 1} → statement M
 lent-refused-spec = tie.close (tie.spec foreign-requires returns returns-2 returns-3)

@@ -1,3 +1,7 @@
+use Rattle.controller.proofs.Chain.{yes, no}
+use mathlib.Core.Path.{refl, sym, _∙_}
+use Rattle.controller.specs.Calls.{questionRefused, deadlineAnswer}
+use Rattle.controller.specs.TurnedBack.{lentRefused}
 use borrow.Author.Needs.{needs}
 use Rattle.uc8253.proofs.questions.next_deadline.Statement.{statement}
 use Rattle.uc8253.proofs.questions.next_deadline.Tie as tie
@@ -12,7 +16,8 @@ foreign-requires c κs = search needs
 
 -- src/questions.rt:117:9
 returns : tie.Need-returns
-returns c = ?
+unfolding lentRefused questionRefused deadlineAnswer
+returns c = (yes _ (sym (c .before .foreign .ensures) ∙ c .if1 .taken) refl, yes _ (sym (c .before .foreign .ensures) ∙ c .if1 .taken) refl)
 
 -- src/questions.rt:124:9
 due-of-requires : tie.Need-due-of-requires
@@ -20,7 +25,8 @@ due-of-requires c κs = search needs
 
 -- src/questions.rt:113:1
 returns-2 : tie.Need-returns-2
-returns-2 c = ?
+unfolding lentRefused questionRefused deadlineAnswer
+returns-2 c = (no _ (sym (c .before .before .before .foreign .ensures) ∙ c .before .before .if1 .left) refl, no _ (sym (c .before .before .before .foreign .ensures) ∙ c .before .before .if1 .left) (c .due-of .ensures))
 
 pub next-deadline-spec : {M : Type 1} → statement M
 next-deadline-spec = tie.close (tie.spec foreign-requires returns due-of-requires returns-2)

@@ -1,3 +1,7 @@
+use Rattle.uc8253.proofs.Refusals.{none, some}
+use Rattle.controller.proofs.Chain.{yes, no}
+use mathlib.Core.Path.{refl, sym, _∙_}
+use Rattle.controller.specs.Calls.{bitRefused, bitAnswer}
 use borrow.Author.Needs.{needs}
 use Rattle.uc8253.proofs.questions.ram_bit.Statement.{statement}
 use Rattle.uc8253.proofs.questions.ram_bit.Tie as tie
@@ -12,7 +16,8 @@ lent-refused-requires c κs = search needs
 
 -- src/questions.rt:134:9
 returns : tie.Need-returns
-returns c = ?
+unfolding bitRefused bitAnswer
+returns c = (c .before .lent-refused .ensures, no _ (some (c .before .lent-refused .ensures) (c .if1 .taken)) refl)
 
 -- src/questions.rt:139:9
 ram-bit-requires : tie.Need-ram-bit-requires
@@ -20,7 +25,8 @@ ram-bit-requires c κs = search needs
 
 -- src/questions.rt:129:1
 returns-2 : tie.Need-returns-2
-returns-2 c = ?
+unfolding bitRefused bitAnswer
+returns-2 c = (sym (c .before .if1 .left) ∙ c .before .before .lent-refused .ensures, yes _ (none (c .before .before .lent-refused .ensures) (c .before .if1 .left)) (c .ram-bit .ensures))
 
 pub ram-bit-spec : {M : Type 1} → statement M
 ram-bit-spec = tie.close (tie.spec lent-refused-requires returns ram-bit-requires returns-2)

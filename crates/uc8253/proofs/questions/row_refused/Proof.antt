@@ -1,3 +1,6 @@
+use Rattle.uc8253.proofs.Refusals.{small}
+use native.Mathlib.Omega.{arith}
+use Rattle.controller.specs.Calls.{rowRefused}
 use borrow.Author.Needs.{needs}
 use Rattle.uc8253.proofs.questions.row_refused.Statement.{statement}
 use Rattle.uc8253.proofs.questions.row_refused.Tie as tie
@@ -15,7 +18,7 @@ cast-pixels-2 c = search needs
 
 -- src/questions.rt:147:18
 mul-pixels : tie.Need-mul-pixels
-mul-pixels c = ?
+mul-pixels c = record { fits = omega (arith, small (c .before .before .before .args .p .config .panel .sources) (c .before .before .before .args .p .config .panel .gates) (search needs) (search needs)) }
 
 -- src/questions.rt:148:5
 lent-refused-requires : tie.Need-lent-refused-requires
@@ -23,7 +26,8 @@ lent-refused-requires c κs = search needs
 
 -- src/questions.rt:144:1
 returns : tie.Need-returns
-returns c = ?
+unfolding rowRefused
+returns c = c .lent-refused .ensures
 
 pub row-refused-spec : {M : Type 1} → statement M
 row-refused-spec =

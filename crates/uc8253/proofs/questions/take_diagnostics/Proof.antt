@@ -1,3 +1,7 @@
+use Rattle.uc8253.proofs.Refusals.{none, some}
+use Rattle.controller.proofs.Chain.{yes, no}
+use mathlib.Core.Path.{refl, sym, _∙_}
+use Rattle.controller.specs.Calls.{takeCall, takingRefused, takenRows}
 use borrow.Author.Needs.{needs}
 use Rattle.uc8253.proofs.questions.take_diagnostics.Statement.{statement}
 use Rattle.uc8253.proofs.questions.take_diagnostics.Tie as tie
@@ -12,7 +16,8 @@ lent-refused-requires c κs = search needs
 
 -- src/questions.rt:64:9
 returns : tie.Need-returns
-returns c = ?
+unfolding takeCall takingRefused takenRows
+returns c = (λ b. no _ (some (c .before .lent-refused .ensures) (c .if1 .taken)) refl, c .before .lent-refused .ensures, no _ (some (c .before .lent-refused .ensures) (c .if1 .taken)) refl)
 
 -- src/questions.rt:72:5
 taken-requires : tie.Need-taken-requires
@@ -20,7 +25,8 @@ taken-requires c κs = search needs
 
 -- src/questions.rt:58:1
 returns-2 : tie.Need-returns-2
-returns-2 c = ?
+unfolding takeCall takingRefused takenRows
+returns-2 c = (λ b. yes _ (none (c .before .before .before .lent-refused .ensures) (c .before .before .if1 .left)) (simp (c .taken .ensures)), sym (c .before .before .if1 .left) ∙ c .before .before .before .lent-refused .ensures, yes _ (none (c .before .before .before .lent-refused .ensures) (c .before .before .if1 .left)) refl)
 
 pub take-diagnostics-spec : {M : Type 1} → statement M
 take-diagnostics-spec = tie.close (tie.spec lent-refused-requires returns taken-requires returns-2)

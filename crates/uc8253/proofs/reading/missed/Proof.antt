@@ -1,3 +1,4 @@
+use borrow.Author.Tests.{eq-eqb, ne-eqb}
 use borrow.Author.Needs.{needs}
 use Rattle.uc8253.proofs.reading.missed.Statement.{statement}
 use Rattle.uc8253.proofs.reading.missed.Tie as tie
@@ -23,15 +24,15 @@ same-length c = search needs
 
 -- src/reading.rt:30:17
 returns : tie.Need-returns
-returns c = ?
+returns c = λ b. simp (c .before .before .before .before .before .before .enum-told2 .given .1, eq-eqb _ _ (c .before .before .before .before .if1 .taken)) (c .before .before .tell .ensures b)
 
 -- src/reading.rt:23:1
 returns-2 : tie.Need-returns-2
-returns-2 c = ?
+returns-2 c = λ b. simp (c .enum-told .given .1)
 
 -- src/reading.rt:23:1
 returns-3 : tie.Need-returns-3
-returns-3 c = ?
+returns-3 c = λ b. simp (c .before .before .enum-told2 .given .1, ne-eqb _ _ (c .if1 .left))
 
 pub missed-spec : {M : Type 1} → statement M
 missed-spec =

@@ -1,3 +1,7 @@
+use Rattle.uc8253.proofs.Changed.{in-case}
+use Rattle.controller.specs.declared.Current.{Current}
+use Rattle.controller.specs.Reading.{reading, readingBy, readOf, readFrom}
+use Rattle.controller.specs.World.{world, withRows}
 use borrow.Author.Needs.{needs}
 use Rattle.uc8253.proofs.reading.read_byte.Statement.{statement}
 use Rattle.uc8253.proofs.reading.read_byte.Tie as tie
@@ -27,15 +31,18 @@ same-length c = search needs
 
 -- src/reading.rt:72:1
 returns : tie.Need-returns
-returns c = ?
+unfolding reading readOf
+returns c = let g = c .before .before .before .before .before .before .before .before .before .args in (λ b. let w = world (g .p) (withRows (g .rows .now) b) in in-case (λ (x : Current). readingBy x w) (c .before .before .before .before .before .current .given .1) (c .before .before .read-under .ensures .0 b), in-case (λ (x : Current). readFrom x (g .p)) (c .before .before .before .before .before .current .given .1) (c .before .before .read-under .ensures .1))
 
 -- src/reading.rt:72:1
 returns-2 : tie.Need-returns-2
-returns-2 c = ?
+unfolding reading readOf
+returns-2 c = (λ b. simp (c .enum-told .given .1), simp (c .enum-told .given .1))
 
 -- src/reading.rt:72:1
 returns-3 : tie.Need-returns-3
-returns-3 c = ?
+unfolding reading readOf
+returns-3 c = (λ b. simp (c .enum-told2 .given .1), simp (c .enum-told2 .given .1))
 
 pub read-byte-spec : {M : Type 1} → statement M
 read-byte-spec =

@@ -11,7 +11,7 @@ counted-requires c κs = search needs
 
 -- src/reading.rt:37:1
 returns : tie.Need-returns
-returns c = ?
+returns c = simp (c .counted .ensures)
 
 pub read-more-spec : {M : Type 1} → statement M
 read-more-spec = tie.close (tie.spec counted-requires returns)

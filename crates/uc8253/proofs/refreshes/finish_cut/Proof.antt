@@ -1,3 +1,4 @@
+use Rattle.uc8253.proofs.Refreshed.{cut-parts}
 use borrow.Author.Needs.{needs}
 use Rattle.uc8253.proofs.refreshes.finish_cut.Statement.{statement}
 use Rattle.uc8253.proofs.refreshes.finish_cut.Tie as tie
@@ -34,7 +35,7 @@ same-length-2 c = search needs
 
 -- src/refreshes.rt:169:1
 returns : tie.Need-returns
-returns c = ?
+returns c = λ old new rows. cut-parts _ _ _ old new _ _ _ rows _ _ _ (c .before .before .before .before .before .before .before .before .before .whole-frames .ensures) (c .before .before .before .before .before .before .before .drive-first .ensures) (c .before .before .before .draw .ensures) (c .publish .ensures)
 
 pub finish-cut-spec : {M : Type 1} → statement M
 finish-cut-spec =

@@ -1,3 +1,4 @@
+use Rattle.uc8253.proofs.Refreshed.{ended-parts}
 use borrow.Author.Needs.{needs}
 use Rattle.uc8253.proofs.refreshes.finish_whole.Statement.{statement}
 use Rattle.uc8253.proofs.refreshes.finish_whole.Tie as tie
@@ -30,7 +31,7 @@ same-length c = search needs
 
 -- src/refreshes.rt:144:1
 same-length-2 : tie.Need-same-length-2
-same-length-2 c = ?
+same-length-2 c = search (needs, c .before .before .before .before .before .before .before .before .before .before .before .states .given, c .before .before .before .before .before .before .before .before .before .before .before .before .drive-whole .ok)
 
 -- src/refreshes.rt:144:1
 same-length-3 : tie.Need-same-length-3
@@ -38,7 +39,7 @@ same-length-3 c = search needs
 
 -- src/refreshes.rt:144:1
 returns : tie.Need-returns
-returns c = ?
+returns c = λ rows. ended-parts _ _ _ _ _ _ _ _ rows _ _ _ (c .before .before .before .before .before .before .before .before .before .before .before .before .drive-whole .ensures) (c .before .before .before .before .before .before .before .before .draw .ensures) (c .before .before .before .copy-after .ensures) (c .publish .ensures)
 
 pub finish-whole-spec : {M : Type 1} → statement M
 finish-whole-spec =

@@ -1,3 +1,8 @@
+use mathlib.Core.List.{[]}
+use Rattle.uc8253.proofs.ByCase.{by-note}
+use Rattle.controller.specs.Refresh.{refreshed}
+use Rattle.controller.specs.World.{buffers}
+use mathlib.Core.Path.{sym, _∙_}
 use borrow.Author.Needs.{needs}
 use Rattle.uc8253.proofs.refreshes.refresh.Statement.{statement}
 use Rattle.uc8253.proofs.refreshes.refresh.Tie as tie
@@ -37,7 +42,8 @@ same-length c = search needs
 
 -- src/refreshes.rt:89:1
 returns : tie.Need-returns
-returns c = ?
+unfolding refreshed
+returns c = λ states picture. by-note _ _ _ _ (sym (c .before .before .before .before .before .before .refresh-note .ensures) ∙ c .before .before .before .before .enum-told .given .1) (c .before .before .start-refresh .ensures states picture _)
 
 -- src/refreshes.rt:89:1
 same-length-2 : tie.Need-same-length-2
@@ -45,7 +51,8 @@ same-length-2 c = search needs
 
 -- src/refreshes.rt:89:1
 returns-2 : tie.Need-returns-2
-returns-2 c = ?
+unfolding refreshed
+returns-2 c = λ states picture. by-note _ _ _ _ (sym (c .before .before .before .before .before .before .before .refresh-note .ensures) ∙ c .before .before .before .before .before .note .given .1) (c .before .before .tell .ensures (buffers _ _ states _ picture []))
 
 pub refresh-spec : {M : Type 1} → statement M
 refresh-spec =

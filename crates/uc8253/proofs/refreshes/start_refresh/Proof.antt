@@ -1,3 +1,4 @@
+use Rattle.uc8253.proofs.Refreshed.{start-parts}
 use borrow.Author.Needs.{needs}
 use Rattle.uc8253.proofs.refreshes.start_refresh.Statement.{statement}
 use Rattle.uc8253.proofs.refreshes.start_refresh.Tie as tie
@@ -45,7 +46,7 @@ same-length c = search needs
 
 -- src/refreshes.rt:60:1
 returns : tie.Need-returns
-returns c = ?
+returns c = λ states picture rows. start-parts _ _ _ states _ picture rows _ _ _ _ _ _ _ (c .before .before .before .before .before .before .before .before .before .before .before .before .before .waveform-now .ensures) (c .before .before .before .before .before .before .before .before .of .ensures) (c .before .before .before .before .before .before .numbers .ensures) (c .before .before .before .before .before .before .before .before .before .written .ensures) (c .before .before .kind-by .ensures) (c .before .duration-ns .ensures) (c .saturating-add .ensures)
 
 pub start-refresh-spec : {M : Type 1} → statement M
 start-refresh-spec =

@@ -1,3 +1,4 @@
+use Rattle.controller.specs.Refresh.{waveformNow}
 use borrow.Author.Needs.{needs}
 use Rattle.uc8253.proofs.refreshes.waveform_now.Statement.{statement}
 use Rattle.uc8253.proofs.refreshes.waveform_now.Tie as tie
@@ -33,7 +34,8 @@ new-requires c κs = search needs
 
 -- src/refreshes.rt:37:1
 returns : tie.Need-returns
-returns c = ?
+unfolding waveformNow
+returns c = simp (c .new .ensures, c .before .before .bytes .ensures, c .before .before .before .before .from-power-setting .ensures)
 
 pub waveform-now-spec : {M : Type 1} → statement M
 waveform-now-spec =

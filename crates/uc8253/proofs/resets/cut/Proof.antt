@@ -1,3 +1,14 @@
+use Rattle.uc8253.proofs.Arrived.{kept-ready}
+use Rattle.uc8253.proofs.ByCase.{by-cut, tell-then-cut}
+use Rattle.controller.specs.TurnedBack.{refreshRuns}
+use Rattle.controller.specs.Refresh.{cutRefresh}
+use Rattle.controller.specs.World.{World, buffers}
+use Rattle.pixels.specs.States.{most, everyState}
+use Rattle.config.specs.declared.Uc8253Config.{Uc8253Config}
+use Prim.Native.Nat.{_≤_}
+use mathlib.Core.List.{[]}
+use mathlib.Core.Bool.{true}
+use mathlib.Core.Path.{_≡_, refl, sym, ap, subst, _∙_}
 use borrow.Author.Needs.{needs}
 use Rattle.uc8253.proofs.resets.cut.Statement.{statement}
 use Rattle.uc8253.proofs.resets.cut.Tie as tie
@@ -40,31 +51,31 @@ tell-requires c κs = search needs
 
 -- src/resets.rt:48:13
 finish-cut-requires : tie.Need-finish-cut-requires
-finish-cut-requires c κs = ?
+finish-cut-requires c κs = kept-ready _ _ _ _ _ (buffers [] [] [] [] [] []) (c .before .before .before .before .before .before .before .before .before .before .before .before .before .args .states .now) (c .before .before .before .before .tell .ensures (buffers [] [] [] [] [] [])) (c .before .before .before .before .before .before .before .before .before .before .before .before .before .pre .0, c .before .before .before .before .before .before .before .before .before .before .before .before .before .pre .1 (ap refreshRuns (c .before .before .before .before .before .before .before .work .given .1)))
 
 -- src/resets.rt:26:1
 returns : tie.Need-returns
-returns c = ?
+returns c = λ old new. by-cut _ _ _ (c .enum-told .given .1) refl
 
 -- src/resets.rt:26:1
 returns-2 : tie.Need-returns-2
-returns-2 c = ?
+returns-2 c = λ old new. by-cut _ _ _ (c .enum-told2 .given .1) refl
 
 -- src/resets.rt:26:1
 returns-3 : tie.Need-returns-3
-returns-3 c = ?
+returns-3 c = λ old new. by-cut _ _ _ (c .enum-told3 .given .1) refl
 
 -- src/resets.rt:26:1
 returns-4 : tie.Need-returns-4
-returns-4 c = ?
+returns-4 c = λ old new. by-cut _ _ _ (c .enum-told4 .given .1) refl
 
 -- src/resets.rt:26:1
 returns-5 : tie.Need-returns-5
-returns-5 c = ?
+returns-5 c = λ old new. by-cut _ _ _ (c .enum-told5 .given .1) refl
 
 -- src/resets.rt:26:1
 returns-6 : tie.Need-returns-6
-returns-6 c = ?
+returns-6 c = λ old new. by-cut _ _ _ (c .enum-told6 .given .1) refl
 
 -- src/resets.rt:26:1
 same-length : tie.Need-same-length
@@ -80,7 +91,7 @@ same-length-3 c = search needs
 
 -- src/resets.rt:26:1
 returns-7 : tie.Need-returns-7
-returns-7 c = ?
+returns-7 c = λ old new. by-cut _ _ _ (c .before .before .before .before .before .before .before .before .before .before .before .work .given .1) (tell-then-cut _ _ _ _ _ (c .before .before .before .finish-cut .ensures old new _) (c .before .before .before .before .before .before .before .before .tell .ensures (buffers old new (c .before .before .before .before .before .before .before .before .before .before .before .before .before .before .before .before .before .args .states .now) (c .before .before .before .before .before .before .before .before .before .before .before .before .before .before .before .before .before .args .numbers .now) (c .before .before .before .before .before .before .before .before .before .before .before .before .before .before .before .before .before .args .picture .now) [])))
 
 pub cut-spec : {M : Type 1} → statement M
 cut-spec =

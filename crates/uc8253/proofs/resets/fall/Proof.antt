@@ -1,3 +1,9 @@
+use Rattle.uc8253.proofs.ByCase.{record-of}
+use Rattle.controller.specs.Command.{closed}
+use Rattle.controller.specs.Reset.{cleared}
+use Rattle.controller.specs.World.{World, buffers, onChip}
+use mathlib.Core.List.{[]}
+use mathlib.Core.Path.{ap, _∙_}
 use borrow.Author.Needs.{needs}
 use Rattle.uc8253.proofs.resets.fall.Statement.{statement}
 use Rattle.uc8253.proofs.resets.fall.Tie as tie
@@ -33,7 +39,7 @@ same-length-3 c = search needs
 
 -- src/resets.rt:83:1
 returns : tie.Need-returns
-returns c = ?
+returns c = λ old new. record-of _ (c .clear .ensures) ∙ ap (λ (w : World). onChip cleared w) (c .before .before .before .close .ensures (buffers old new _ _ _ []) ∙ ap closed (c .before .before .before .before .before .before .before .before .before .before .cut .ensures old new))
 
 pub fall-spec : {M : Type 1} → statement M
 fall-spec =

@@ -1,3 +1,6 @@
+use Rattle.controller.specs.declared.Power.the-variants as power
+use Rattle.uc8253.proofs.ByCase.{by-fall, by-rise, record-of, cut-by}
+use mathlib.Core.Path.{refl}
 use borrow.Author.Needs.{needs}
 use Rattle.uc8253.proofs.resets.reset_edge.Statement.{statement}
 use Rattle.uc8253.proofs.resets.reset_edge.Tie as tie
@@ -12,7 +15,7 @@ enum-told c = search needs
 
 -- src/resets.rt:131:17
 fall-requires : tie.Need-fall-requires
-fall-requires c κs = ?
+fall-requires c κs = (c .before .before .before .before .before .before .before .before .before .before .pre .0, λ h. c .before .before .before .before .before .before .before .before .before .before .pre .1 h (cut-by _ _ power.Running (c .before .before .before .before .enum-told .given .1) (c .before .before .before .if1 .taken) refl))
 
 -- src/resets.rt:131:17
 same-length : tie.Need-same-length
@@ -28,7 +31,7 @@ same-length-3 c = search needs
 
 -- src/resets.rt:131:17
 returns : tie.Need-returns
-returns c = ?
+returns c = λ old new. by-fall _ _ _ _ (c .before .before .before .before .before .before .before .before .before .if1 .taken) (c .before .before .before .before .before .before .before .before .before .before .enum-told .given .1) (c .before .before .before .before .before .fall .ensures old new)
 
 -- src/resets.rt:136:16
 enum-told-2 : tie.Need-enum-told-2
@@ -36,7 +39,7 @@ enum-told-2 c = search needs
 
 -- src/resets.rt:137:17
 fall-requires-2 : tie.Need-fall-requires-2
-fall-requires-2 c κs = ?
+fall-requires-2 c κs = (c .before .before .before .before .before .before .before .before .before .before .pre .0, λ h. c .before .before .before .before .before .before .before .before .before .before .pre .1 h (cut-by _ _ power.Asleep (c .before .before .before .before .enum-told2 .given .1) (c .before .before .before .if2 .taken) refl))
 
 -- src/resets.rt:137:17
 same-length-4 : tie.Need-same-length-4
@@ -52,7 +55,7 @@ same-length-6 c = search needs
 
 -- src/resets.rt:137:17
 returns-2 : tie.Need-returns-2
-returns-2 c = ?
+returns-2 c = λ old new. by-fall _ _ _ _ (c .before .before .before .before .before .before .before .before .before .if2 .taken) (c .before .before .before .before .before .before .before .before .before .before .enum-told2 .given .1) (c .before .before .before .before .before .fall2 .ensures old new)
 
 -- src/resets.rt:142:16
 enum-told-3 : tie.Need-enum-told-3
@@ -60,7 +63,7 @@ enum-told-3 c = search needs
 
 -- src/resets.rt:143:17
 returns-3 : tie.Need-returns-3
-returns-3 c = ?
+returns-3 c = λ old new. by-fall _ _ _ _ (c .if3 .taken) (c .before .enum-told3 .given .1) refl
 
 -- src/resets.rt:145:13
 rise-requires : tie.Need-rise-requires
@@ -68,15 +71,15 @@ rise-requires c κs = search needs
 
 -- src/resets.rt:114:1
 returns-4 : tie.Need-returns-4
-returns-4 c = ?
+returns-4 c = λ old new. by-rise _ _ _ _ (c .if1 .left) (c .before .enum-told .given .1) refl
 
 -- src/resets.rt:114:1
 returns-5 : tie.Need-returns-5
-returns-5 c = ?
+returns-5 c = λ old new. by-rise _ _ _ _ (c .if2 .left) (c .before .enum-told2 .given .1) refl
 
 -- src/resets.rt:114:1
 returns-6 : tie.Need-returns-6
-returns-6 c = ?
+returns-6 c = λ old new. by-rise _ _ _ _ (c .before .if3 .left) (c .before .before .enum-told3 .given .1) (record-of _ (c .rise .ensures))
 
 pub reset-edge-spec : {M : Type 1} → statement M
 reset-edge-spec =
