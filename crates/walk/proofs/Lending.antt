@@ -1,0 +1,307 @@
+-- One call of a list: turned back, or accepted; what either makes of the place.
+use mathlib.Core.Path.{_≡_, refl, sym, ap, _∙_}
+use mathlib.Core.Bool.{Bool, true, false, not, _&&_, _||_, true≢false}
+use mathlib.Core.List.{List, [], _∷_}
+use Prim.Native.Nat.{ℕ, _*_, _<_}
+use lib.Dec.{eqb, ltb}
+use lib.ListN.{length}
+use borrow.Author.Tests.{eqb-true, ltb-true}
+use Rattle.base.specs.Pick.{pick}
+use Rattle.base.proofs.Cases.{by-cases}
+use Rattle.config.specs.declared.Uc8253Config.{Uc8253Config}
+use Rattle.config.proofs.RefusalLaws.{accepted}
+use Rattle.controller.specs.declared.Uc8253.{Uc8253}
+use Rattle.controller.specs.declared.Work.{Work}
+use Rattle.controller.specs.declared.Work.the-variants as work
+use Rattle.controller.specs.World.{World, Buffers, world}
+use Rattle.controller.specs.TurnedBack.{foreignRecord, turnedBack, lengthsFit, lentFits, lentRefused, refreshRuns, makingRefused}
+use Rattle.controller.specs.Calls as calls
+use Rattle.controller.specs.Sound.{Sound}
+use Rattle.walk.specs.Machine.{Ask, command, datum, reading, advance, reset, taking, askBusy, askDeadline, askBit, askRow, Fed}
+use Rattle.walk.specs.Calls.{Call, did, refusedBy, writes, handed, result, turned, next, OwnFor, OwnBuffers, IsByte, Bytes, fedAt, fedBy, start}
+use Rattle.walk.proofs.Seen.{jobOf, machineOf, Panelled}
+use Rattle.walk.proofs.Follow.{moved}
+use Rattle.walk.proofs.Pixel.{ServesJob}
+
+-- ---- what the refusal's number decides
+pub did-yes : (a : Ask) (w : World) → eqb (refusedBy a w) 0 ≡ true → did a w ≡ moved a w
+unfolding did refusedBy calls.called calls.takeCall
+did-yes (command t c) w e = rw e
+did-yes (datum t b) w e = rw e
+did-yes (reading t) w e = rw e
+did-yes (advance t) w e = rw e
+did-yes (reset t asserted) w e = rw e
+did-yes taking w e = rw e
+did-yes (askBusy t) w e = refl
+did-yes askDeadline w e = refl
+did-yes (askBit older x y) w e = refl
+did-yes (askRow y) w e = refl
+
+pub did-no : (a : Ask) (w : World) → eqb (refusedBy a w) 0 ≡ false → did a w ≡ w
+unfolding did refusedBy calls.called calls.takeCall
+did-no (command t c) w e = rw e
+did-no (datum t b) w e = rw e
+did-no (reading t) w e = rw e
+did-no (advance t) w e = rw e
+did-no (reset t asserted) w e = rw e
+did-no taking w e = rw e
+did-no (askBusy t) w e = refl
+did-no askDeadline w e = refl
+did-no (askBit older x y) w e = refl
+did-no (askRow y) w e = refl
+
+-- taking the rows and the questions change no lent entry, and look at the record alone
+abbrev pub Spares : Bool → Ask → World → Type 0
+Spares true a w = Unit {0}
+Spares false a w = did a w .lent ≡ w .lent
+
+pub spares : (a : Ask) (w : World) → Spares (writes a) a w
+unfolding did calls.takeCall
+spares (command t c) w = tt
+spares (datum t b) w = tt
+spares (reading t) w = tt
+spares (advance t) w = tt
+spares (reset t asserted) w = tt
+spares taking w = by-cases (eqb (calls.takingRefused (w .chip) (w .lent .rows)) 0) (λ e. rw e) (λ e. rw e)
+spares (askBusy t) w = refl
+spares askDeadline w = refl
+spares (askBit older x y) w = refl
+spares (askRow y) w = refl
+
+-- the place after an accepted call
+place-on : (a : Ask) (at : World) (l : Buffers) (t : Bool) → t ≡ false → (writes a ≡ true → l ≡ at .lent)
+    → world (moved a (world (at .chip) l) .chip) (pick (t || not (writes a)) (at .lent) (moved a (world (at .chip) l) .lent)) ≡ moved a at
+place-on (command t c) at l q e own = rw (e, own refl)
+place-on (datum t b) at l q e own = rw (e, own refl)
+place-on (reading t) at l q e own = rw (e, own refl)
+place-on (advance t) at l q e own = rw (e, own refl)
+place-on (reset t asserted) at l q e own = rw (e, own refl)
+place-on taking at l q e own = rw e
+place-on (askBusy t) at l q e own = rw e
+place-on askDeadline at l q e own = rw e
+place-on (askBit older x y) at l q e own = rw e
+place-on (askRow y) at l q e own = rw e
+
+-- ---- a call is turned back or accepted
+pub data Gone (at : World) (c : Call) : Type 0 where
+  back : turned at c ≡ true → next at c ≡ at → Gone at c
+  on : turned at c ≡ false → next at c ≡ moved (c .ask) at → Gone at c
+
+turned-no : (at : World) (c : Call) → eqb (refusedBy (c .ask) (handed at c)) 0 ≡ true → turned at c ≡ false
+unfolding turned
+turned-no at c e = rw e
+
+turned-yes : (at : World) (c : Call) → eqb (refusedBy (c .ask) (handed at c)) 0 ≡ false → turned at c ≡ true
+unfolding turned
+turned-yes at c e = rw e
+
+next-on : (at : World) (c : Call) → eqb (refusedBy (c .ask) (handed at c)) 0 ≡ true → (writes (c .ask) ≡ true → c .lent ≡ at .lent) → next at c ≡ moved (c .ask) at
+unfolding next result
+next-on at c e own =
+    ap (λ (w : World). world (w .chip) (pick (turned at c || not (writes (c .ask))) (at .lent) (w .lent))) (did-yes (c .ask) (handed at c) e)
+    ∙ place-on (c .ask) at (c .lent) (turned at c) (turned-no at c e) own
+
+next-back : (at : World) (c : Call) → eqb (refusedBy (c .ask) (handed at c)) 0 ≡ false → next at c ≡ at
+unfolding next result
+next-back at c e = rw (did-no (c .ask) (handed at c) e, turned-yes at c e)
+
+-- the condition on what is lent
+own-for : (t : Bool) (at : World) (c : Call) → OwnFor t at c → turned at c ≡ false → t ≡ true → c .lent ≡ at .lent
+own-for true at c own e q = own e
+own-for false at c own e q = absurd (true≢false (sym q))
+
+pub gone : (at : World) (c : Call) → OwnFor (writes (c .ask)) at c → Gone at c
+gone at c own =
+    by-cases (eqb (refusedBy (c .ask) (handed at c)) 0)
+    (λ e. on (turned-no at c e) (next-on at c e (own-for (writes (c .ask)) at c own (turned-no at c e))))
+    (λ e. back (turned-yes at c e) (next-back at c e))
+
+-- a call turned back gives back the record that it was given, and leaves every lent entry
+pub refused-leaves : (at : World) (c : Call) → turned at c ≡ true → (result at c .chip ≡ at .chip) × (result at c .lent ≡ c .lent)
+unfolding result
+refused-leaves at c e =
+    by-cases (eqb (refusedBy (c .ask) (handed at c)) 0)
+    (λ y. absurd (true≢false (sym e ∙ turned-no at c y)))
+    (λ n. (ap (λ (w : World). w .chip) (did-no (c .ask) (handed at c) n), ap (λ (w : World). w .lent) (did-no (c .ask) (handed at c) n)))
+
+-- ---- what a sound world has
+and-left : (a b : Bool) → (a && b) ≡ true → a ≡ true
+and-left true b e = refl
+and-left false b e = e
+
+and-right : (a b : Bool) → (a && b) ≡ true → b ≡ true
+and-right true b e = e
+and-right false b e = absurd (true≢false (sym e))
+
+pub record Long (w : World) : Type 0 where
+  pub old : eqb (length (w .lent .old)) 60000 ≡ true
+  pub new : eqb (length (w .lent .new)) 60000 ≡ true
+  pub states : eqb (length (w .lent .states)) (w .chip .config .panel .sources * w .chip .config .panel .gates) ≡ true
+  pub numbers : eqb (length (w .lent .numbers)) (w .chip .config .panel .sources * w .chip .config .panel .gates) ≡ true
+  pub picture : eqb (length (w .lent .picture)) (w .chip .config .panel .sources * w .chip .config .panel .gates) ≡ true
+  pub rows : eqb (length (w .lent .rows)) 5120 ≡ true
+
+pub lengths : (w : World) → lentFits (w .chip .config) (w .lent) ≡ true → Long w
+unfolding lengthsFit
+lengths w e0 =
+    let n = w .chip .config .panel .sources * w .chip .config .panel .gates in
+    let e1 = and-right (eqb (length (w .lent .old)) 60000) _ e0 in
+    let e2 = and-right (eqb (length (w .lent .new)) 60000) _ e1 in
+    let e3 = and-right (eqb (length (w .lent .states)) n) _ e2 in
+    let e4 = and-right (eqb (length (w .lent .numbers)) n) _ e3 in
+    let e5 = and-right (eqb (length (w .lent .picture)) n) _ e4 in
+    record {
+      old = and-left (eqb (length (w .lent .old)) 60000) _ e0;
+      new = and-left (eqb (length (w .lent .new)) 60000) _ e1;
+      states = and-left (eqb (length (w .lent .states)) n) _ e2;
+      numbers = and-left (eqb (length (w .lent .numbers)) n) _ e3;
+      picture = and-left (eqb (length (w .lent .picture)) n) _ e4;
+      rows = e5;
+    }
+
+pub states-long : (w : World) → Sound w → length (w .lent .states) ≡ w .chip .config .panel .sources * w .chip .config .panel .gates
+states-long w s = eqb-true _ _ (lengths w (s .fits) .states)
+
+pub panelled : (w : World) → Sound w → Panelled w
+panelled w s = record {
+  wide = accepted (w .chip .config) (s .config) .sources-least;
+  long = eqb-true _ _ (lengths w (s .fits) .numbers);
+}
+
+module _ (w : World) (s : Sound w) where
+  serves-work : (x : Work) → w .chip .operation .work ≡ x
+      → ServesJob (length (w .lent .states)) (jobOf x (w .chip .operation .started) (w .chip .operation .until) (w .chip .waveform) (w .lent .numbers))
+  serves-work work.Nothing e = tt
+  serves-work work.PowerOn e = tt
+  serves-work work.PowerOff e = tt
+  serves-work work.DeepSleep e = tt
+  serves-work work.SoftReset e = tt
+  serves-work work.HardwareReset e = tt
+  serves-work (work.Refresh r) e = record { known = s .numbers (ap refreshRuns e); long = panelled w s .long ∙ sym (states-long w s) }
+
+  pub serves : ServesJob (length (w .lent .states)) (machineOf w .job)
+  serves = serves-work (w .chip .operation .work) refl
+
+-- ---- a sound world is never turned back
+module _ (home : (w : World) → Sound w → foreignRecord (w .chip) ≡ false) where
+  lent-accepted : (w : World) → Sound w → (fits : Bool) → fits ≡ true → lentRefused (w .chip) fits ≡ 0
+  unfolding lentRefused
+  lent-accepted w s fits e = rw (home w s, e)
+
+  plane-long : (older : Bool) (w : World) → Long w → eqb (length (pick older (w .lent .old) (w .lent .new))) 60000 ≡ true
+  plane-long true w l = l .old
+  plane-long false w l = l .new
+
+  pub take-accepted : (w : World) → Sound w → calls.takingRefused (w .chip) (w .lent .rows) ≡ 0
+  unfolding calls.takingRefused
+  take-accepted w s = lent-accepted w s _ (lengths w (s .fits) .rows)
+
+  pub sound-accepted : ((asserted : Bool) (t : ℕ) (w : World) → Sound w → turnedBack asserted t w ≡ 0) → (a : Ask) (w : World) → Sound w → refusedBy a w ≡ 0
+  unfolding refusedBy calls.questionRefused calls.bitRefused calls.rowRefused
+  sound-accepted never (command t c) w s = never false t w s
+  sound-accepted never (datum t b) w s = never false t w s
+  sound-accepted never (reading t) w s = never false t w s
+  sound-accepted never (advance t) w s = never false t w s
+  sound-accepted never (reset t asserted) w s = never asserted t w s
+  sound-accepted never taking w s = take-accepted w s
+  sound-accepted never (askBusy t) w s = lent-accepted w s true refl
+  sound-accepted never askDeadline w s = lent-accepted w s true refl
+  sound-accepted never (askBit older x y) w s = lent-accepted w s _ (plane-long older w (lengths w (s .fits)))
+  sound-accepted never (askRow y) w s = lent-accepted w s _ (lengths w (s .fits) .picture)
+
+-- ---- lists that can be: the calls that are to be turned back are lent nothing, the others the place's buffers
+abbrev pub noBuffers : Buffers
+noBuffers = record { old = []; new = []; states = []; numbers = []; picture = []; rows = [] }
+
+abbrev pub lendingOf : World → Fed → Call
+lendingOf at f = record { ask = f .ask; lent = pick (f .back) noBuffers (at .lent) }
+
+unfoldable pub lending : World → List Fed → List Call
+lending at [] = []
+lending at (f ∷ fs) = lendingOf at f ∷ lending (next at (lendingOf at f)) fs
+
+-- bytes are bytes, and what is to be turned back may change a lent entry
+abbrev pub isByte : Ask → Bool
+isByte (command t c) = ltb c 256
+isByte (datum t b) = ltb b 256
+isByte (reading t) = true
+isByte (advance t) = true
+isByte (reset t asserted) = true
+isByte taking = true
+isByte (askBusy t) = true
+isByte askDeadline = true
+isByte (askBit older x y) = true
+isByte (askRow y) = true
+
+abbrev pub plain : List Fed → Bool
+plain [] = true
+plain (f ∷ fs) = (isByte (f .ask) && pick (f .back) (writes (f .ask)) true) && plain fs
+
+is-byte : (a : Ask) → isByte a ≡ true → IsByte a
+is-byte (command t c) e = ltb-true c 256 e
+is-byte (datum t b) e = ltb-true b 256 e
+is-byte (reading t) e = tt
+is-byte (advance t) e = tt
+is-byte (reset t asserted) e = tt
+is-byte taking e = tt
+is-byte (askBusy t) e = tt
+is-byte askDeadline e = tt
+is-byte (askBit older x y) e = tt
+is-byte (askRow y) e = tt
+
+pub plain-byte : (f : Fed) (fs : List Fed) → plain (f ∷ fs) ≡ true → IsByte (f .ask)
+plain-byte f fs e = is-byte (f .ask) (and-left _ (pick (f .back) (writes (f .ask)) true) (and-left _ (plain fs) e))
+
+pub plain-rest : (f : Fed) (fs : List Fed) → plain (f ∷ fs) ≡ true → plain fs ≡ true
+plain-rest f fs e = and-right (isByte (f .ask) && pick (f .back) (writes (f .ask)) true) (plain fs) e
+
+plain-back : (f : Fed) (fs : List Fed) → plain (f ∷ fs) ≡ true → pick (f .back) (writes (f .ask)) true ≡ true
+plain-back f fs e = and-right (isByte (f .ask)) _ (and-left _ (plain fs) e)
+
+pub bytes-lending : (at : World) (fs : List Fed) → plain fs ≡ true → Bytes (lending at fs)
+unfolding lending
+bytes-lending at [] e = tt
+bytes-lending at (f ∷ fs) e = (plain-byte f fs e, bytes-lending (next at (lendingOf at f)) fs (plain-rest f fs e))
+
+-- lent nothing, a call that may change a lent entry is turned back
+lent-none : (asserted : Bool) (t : ℕ) (p : Uc8253) → eqb (turnedBack asserted t (world p noBuffers)) 0 ≡ false
+unfolding turnedBack lengthsFit
+lent-none asserted t p = by-cases (foreignRecord p) (λ e. rw e) (λ e. rw e)
+
+turned-none : (a : Ask) (at : World) → writes a ≡ true → turned at (record { ask = a; lent = noBuffers }) ≡ true
+unfolding turned refusedBy
+turned-none (command t c) at e = rw (lent-none false t (at .chip))
+turned-none (datum t b) at e = rw (lent-none false t (at .chip))
+turned-none (reading t) at e = rw (lent-none false t (at .chip))
+turned-none (advance t) at e = rw (lent-none false t (at .chip))
+turned-none (reset t asserted) at e = rw (lent-none asserted t (at .chip))
+turned-none taking at e = absurd (true≢false (sym e))
+turned-none (askBusy t) at e = absurd (true≢false (sym e))
+turned-none askDeadline at e = absurd (true≢false (sym e))
+turned-none (askBit older x y) at e = absurd (true≢false (sym e))
+turned-none (askRow y) at e = absurd (true≢false (sym e))
+
+-- one call of it, where a call lent the place's buffers is accepted
+module _ (at : World) (accepts : (a : Ask) → turned at (record { ask = a; lent = at .lent }) ≡ false) where
+  turned-by : (a : Ask) (b : Bool) → pick b (writes a) true ≡ true → turned at (record { ask = a; lent = pick b noBuffers (at .lent) }) ≡ b
+  turned-by a true e = turned-none a at e
+  turned-by a false e = accepts a
+
+  own-by : (t : Bool) (a : Ask) (b : Bool) → pick b (writes a) true ≡ true → OwnFor t at (record { ask = a; lent = pick b noBuffers (at .lent) })
+  own-by false a b e = tt
+  own-by true a false e = λ q. refl
+  own-by true a true e = λ q. absurd (true≢false (sym (turned-none a at e) ∙ q))
+
+  pub lent-turned : (f : Fed) (fs : List Fed) → plain (f ∷ fs) ≡ true → fedAt at (lendingOf at f) ≡ f
+  lent-turned f fs e = ap (λ (b : Bool). record { ask = f .ask; back = b }) (turned-by (f .ask) (f .back) (plain-back f fs e))
+
+  pub lent-own : (f : Fed) (fs : List Fed) → plain (f ∷ fs) ≡ true → OwnFor (writes (f .ask)) at (lendingOf at f)
+  lent-own f fs e = own-by (writes (f .ask)) (f .ask) (f .back) (plain-back f fs e)
+
+-- every list of asks can be met, and is fed as it stands
+pub record Lent (g : Uc8253Config) (b : Buffers) (fs : List Fed) : Type 0 where
+  pub own : OwnBuffers (start g b) (lending (start g b) fs)
+  pub fed : fedBy (start g b) (lending (start g b) fs) ≡ fs
+
+abbrev pub Lendable : Type 0
+Lendable = (g : Uc8253Config) (b : Buffers) (fs : List Fed) → g .optics .«initial_gray» < 256 → makingRefused g b ≡ 0 → plain fs ≡ true → Lent g b fs

@@ -1,0 +1,13 @@
+pub mod Numbers
+pub mod Seen
+pub mod Arrival
+pub mod Commands
+pub mod DataBytes
+pub mod Edges
+pub mod Calmness
+pub mod Aptness
+pub mod Follow
+pub mod Pixel
+pub mod Lending
+pub mod Demand
+pub mod Example
