@@ -3,3 +3,4 @@ pub mod Bytes
 pub mod Parts
 pub mod Glass
 pub mod Sound
+pub mod Ends

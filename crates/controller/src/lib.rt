@@ -4,32 +4,32 @@
 // RAM, glass, picture and diagnostics lie in lent buffers; the decoded tables of a refresh stand
 // beside the operation, since an enum holds no array.
 mod notes;
-mod uses;
 mod reads;
 mod refused;
+mod uses;
 
+use command::Kind;
+use config::Uc8253Config;
+use glass::PanelImage;
+use glass::RefreshKind;
+use log::Log;
 pub use notes::Note;
 pub use notes::barred;
 pub use notes::closing;
 pub use notes::refresh_note;
-pub use uses::Use;
-pub use uses::counted;
-pub use uses::purpose;
+use ram::Cursor;
 pub use reads::Read;
 pub use reads::busy_at;
 pub use reads::driven_byte;
 pub use refused::ends_refresh;
 pub use refused::foreign;
 pub use refused::lengths_fit;
-use command::Kind;
-use config::Uc8253Config;
-use glass::PanelImage;
-use glass::RefreshKind;
-use log::Log;
-use ram::Cursor;
 use registers::Area;
 use registers::Luts;
 use registers::Registers;
+pub use uses::Use;
+pub use uses::counted;
+pub use uses::purpose;
 use waveform::Waveform;
 
 // The reset line and deep sleep.

@@ -139,9 +139,10 @@ Ready a u = (u .chip .config .optics .«full_swing» ≤ most)
 arrived-ready : (a : Bool) (t : ℕ) (w : World) → turnedBack a t w ≡ 0 → (l : Bool) → leb (w .chip .operation .until) (max (w .chip .now) t) ≡ l → Ready a (arrived t w)
 unfolding arrived ended
 arrived-ready a t w e true h =
-    rw h
-    (subst (λ (c : Uc8253Config). c .optics .«full_swing» ≤ most) (sym (config-after (w .chip .operation .work) (timed t w))) (ready a t w e .0),
-    λ r. absurd (idle-after (w .chip .operation .work) (timed t w) refl r))
+    rw h (
+      subst (λ (c : Uc8253Config). c .optics .«full_swing» ≤ most) (sym (config-after (w .chip .operation .work) (timed t w))) (ready a t w e .0),
+      λ r. absurd (idle-after (w .chip .operation .work) (timed t w) refl r),
+    )
 arrived-ready a t w e false h = rw h (ready a t w e .0, λ r c. ready a t w e .1 (cut-ends a t (w .chip) r c))
 
 -- once the call has arrived

@@ -77,10 +77,9 @@ pub made-first : {r : ℕ} (c : Uc8253Config) (b : Buffers) (chip : Uc8253) (a :
     → (world chip a ≡ made c b) × (0 ≡ makingRefused c b)
 unfolding made
 made-first c b chip a g q z f =
-    let e = sym q ∙ z in
-    (
+    let e = sym q ∙ z in (
       yes (world zeros b) (eq-eqb (makingRefused c b) 0 e)
-      (ap (λ p. world p a) (f .chip-is ∙ first-chip c) ∙ ap (world (firstChip c)) (first-buffers c b chip a g e f)),
+          (ap (λ p. world p a) (f .chip-is ∙ first-chip c) ∙ ap (world (firstChip c)) (first-buffers c b chip a g e f)),
       sym e,
     )
 

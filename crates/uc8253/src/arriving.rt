@@ -8,13 +8,13 @@ ghost use Rattle.pixels.specs.States.{most, everyState};
 ghost use Rattle.controller.specs.World.{buffers, world, withOperation, withPowered};
 ghost use Rattle.controller.specs.TurnedBack.{refreshRuns, endsRefresh};
 ghost use Rattle.controller.specs.Arrives as arrives;
+use crate::refreshes::finish_whole;
+use crate::telling::rested;
 use base::greatest;
 use controller::Mode;
 use controller::Power;
 use controller::Uc8253;
 use controller::Work;
-use crate::refreshes::finish_whole;
-use crate::telling::rested;
 
 fn powered(p: Uc8253, on: bool) -> Uc8253
     ensures { λ r. ⌜ r ≡ withOperation arrives.rest (withPowered on p) ⌝ }

@@ -5,6 +5,9 @@ ghost use Prim.Native.Nat.{ℕ};
 ghost use lib.IntN.{ℤ};
 ghost use Rattle.controller.specs.World.{Buffers, world, buffers, withRows, withOld, withNew};
 ghost use Rattle.controller.specs.DataByte as rule;
+use crate::telling::start;
+use crate::telling::tell;
+use crate::telling::with_current;
 use command::Kind;
 use command::Params;
 use controller::Active;
@@ -14,9 +17,6 @@ use controller::Use;
 use controller::Work;
 use controller::counted;
 use controller::purpose;
-use crate::telling::start;
-use crate::telling::tell;
-use crate::telling::with_current;
 use diagnostic::DiagnosticKind;
 use ram::next;
 use ram::write;
@@ -56,7 +56,11 @@ fn past_window(p: Uc8253, a: Active, rows: &mut [u64]) -> Uc8253
     }
     let mut b = a;
     b.past_reported = true;
-    let q = tell(p, rows, DiagnosticKind::PastTheWindow { command: a.command });
+    let q = tell(
+        p,
+        rows,
+        DiagnosticKind::PastTheWindow { command: a.command },
+    );
     with_current(q, Current::Active(b))
 }
 

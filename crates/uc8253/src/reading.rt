@@ -2,6 +2,8 @@
 ghost use mathlib.Core.Path.{_≡_};
 ghost use Rattle.controller.specs.World.{Buffers, world, withRows};
 ghost use Rattle.controller.specs.Reading as rule;
+use crate::telling::tell;
+use crate::telling::with_current;
 use command::Kind;
 use controller::Active;
 use controller::Current;
@@ -9,8 +11,6 @@ use controller::Read;
 use controller::Uc8253;
 use controller::counted;
 use controller::driven_byte;
-use crate::telling::tell;
-use crate::telling::with_current;
 use diagnostic::DiagnosticKind;
 
 // The record after a read, and the byte.
@@ -27,7 +27,11 @@ fn missed(p: Uc8253, a: Active, byte: Read, rows: &mut [u64]) -> Uc8253
         Read::Byte(_) => p,
         Read::Nothing => {
             if a.read == 0 {
-                return tell(p, rows, DiagnosticKind::NothingToRead { command: a.command });
+                return tell(
+                    p,
+                    rows,
+                    DiagnosticKind::NothingToRead { command: a.command },
+                );
             }
             p
         }

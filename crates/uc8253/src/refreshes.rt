@@ -11,6 +11,7 @@ ghost use Rattle.waveform.specs.Frames.{framesOf};
 ghost use Rattle.pixels.specs.States.{most, everyState};
 ghost use Rattle.controller.specs.World.{Buffers, world, buffers, withRows, withNumbers, withImage};
 ghost use Rattle.controller.specs.Refresh as rule;
+use crate::telling::tell;
 use base::saturating_add;
 use controller::Note;
 use controller::Operation;
@@ -18,7 +19,6 @@ use controller::Refresh;
 use controller::Uc8253;
 use controller::Work;
 use controller::refresh_note;
-use crate::telling::tell;
 use glass::Optics;
 use glass::PanelImage;
 use glass::RefreshKind;
@@ -47,7 +47,11 @@ fn waveform_now(p: Uc8253) -> Waveform
     let power = regs.power;
     let levels = Levels::from_power_setting(power);
     let luts = p.luts;
-    Waveform::new(luts.bytes(), levels, periods[(regs.pll % FRAME_RATES) as usize])
+    Waveform::new(
+        luts.bytes(),
+        levels,
+        periods[(regs.pll % FRAME_RATES) as usize],
+    )
 }
 
 fn kind_by(numbers: &[u8]) -> RefreshKind

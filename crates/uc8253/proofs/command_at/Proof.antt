@@ -1,42 +1,31 @@
+-- `uc8253::command_at` meets its contract: arrival, then the command byte.
 use Rattle.controller.specs.Command.{commandByte}
 use Rattle.uc8253.proofs.ByCase.{after}
 use borrow.Author.Needs.{needs}
 use Rattle.uc8253.proofs.command_at.Statement.{statement}
 use Rattle.uc8253.proofs.command_at.Tie as tie
-use Rattle.uc8253.proofs.command_at.Reads as reads
-use Rattle.uc8253.proofs.command_at.Lts as lts
-use Rattle.uc8253.proofs.arriving.arrive.Reads as arrive-reads
-use Rattle.uc8253.proofs.commands.command_byte.Reads as command-byte-reads
 
--- src/lib.rt:133:9
 arrive-requires : tie.Need-arrive-requires
 arrive-requires c κs = search needs
 
--- src/lib.rt:134:5
 command-byte-requires : tie.Need-command-byte-requires
 command-byte-requires c κs = search needs
 
--- src/lib.rt:118:1
 same-length : tie.Need-same-length
 same-length c = search needs
 
--- src/lib.rt:118:1
 same-length-2 : tie.Need-same-length-2
 same-length-2 c = search needs
 
--- src/lib.rt:118:1
 same-length-3 : tie.Need-same-length-3
 same-length-3 c = search needs
 
--- src/lib.rt:118:1
 same-length-4 : tie.Need-same-length-4
 same-length-4 c = search needs
 
--- src/lib.rt:118:1
 same-length-5 : tie.Need-same-length-5
 same-length-5 c = search needs
 
--- src/lib.rt:118:1
 returns : tie.Need-returns
 returns c = after (commandByte (c .before .before .before .before .before .before .before .before .before .before .before .before .before .before .before .before .before .before .before .before .before .before .before .args .command)) _ _ _ (c .before .before .before .before .before .before .before .before .before .before .before .before .before .arrive .ensures (c .before .before .before .before .before .before .before .before .before .before .before .before .before .before .before .before .before .before .before .before .before .before .before .args .rows .now)) (c .before .before .before .before .command-byte .ensures _ _)
 

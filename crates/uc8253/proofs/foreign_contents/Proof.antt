@@ -1,33 +1,25 @@
+-- `uc8253::foreign_contents` meets its contract, by its two tests.
 use Rattle.controller.proofs.Chain.{yes, no}
 use mathlib.Core.Path.{refl, sym, _∙_}
 use Rattle.uc8253.specs.Steps.{seven}
 use borrow.Author.Needs.{needs}
 use Rattle.uc8253.proofs.foreign_contents.Statement.{statement}
 use Rattle.uc8253.proofs.foreign_contents.Tie as tie
-use Rattle.uc8253.proofs.foreign_contents.Reads as reads
-use Rattle.uc8253.proofs.foreign_contents.Lts as lts
-use Rattle.pixels.proofs.all_numbers.Reads as all-numbers-reads
-use Rattle.pixels.proofs.all_states.Reads as all-states-reads
 
--- src/lib.rt:99:8
 all-states-requires : tie.Need-all-states-requires
 all-states-requires c κs = search needs
 
--- src/lib.rt:100:12
 all-numbers-requires : tie.Need-all-numbers-requires
 all-numbers-requires c κs = search needs
 
--- src/lib.rt:101:13
 returns : tie.Need-returns
 unfolding seven
 returns c = yes _ (sym (c .before .before .before .all-states .ensures) ∙ c .before .before .if1 .taken) (yes _ (sym (c .before .all-numbers .ensures) ∙ c .if2 .taken) refl)
 
--- src/lib.rt:103:9
 returns-2 : tie.Need-returns-2
 unfolding seven
 returns-2 c = yes _ (sym (c .before .before .before .all-states .ensures) ∙ c .before .before .if1 .taken) (no _ (sym (c .before .all-numbers .ensures) ∙ c .if2 .left) refl)
 
--- src/lib.rt:96:1
 returns-3 : tie.Need-returns-3
 unfolding seven
 returns-3 c = no _ (sym (c .before .all-states .ensures) ∙ c .if1 .left) refl

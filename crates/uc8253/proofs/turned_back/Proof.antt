@@ -1,3 +1,4 @@
+-- `uc8253::turned_back` meets its contract, by 6, 5 and 7 in order.
 use Rattle.uc8253.proofs.Refusals.{not-both, contents}
 use Rattle.controller.proofs.Chain.{yes, no}
 use mathlib.Core.Path.{refl, sym, _∙_}
@@ -5,45 +6,31 @@ use Rattle.controller.specs.TurnedBack.{turnedBack}
 use borrow.Author.Needs.{needs}
 use Rattle.uc8253.proofs.turned_back.Statement.{statement}
 use Rattle.uc8253.proofs.turned_back.Tie as tie
-use Rattle.uc8253.proofs.turned_back.Reads as reads
-use Rattle.uc8253.proofs.turned_back.Lts as lts
-use Rattle.controller.proofs.ends_refresh.Reads as ends-refresh-reads
-use Rattle.controller.proofs.foreign.Reads as foreign-reads
-use Rattle.controller.proofs.lengths_fit.Reads as lengths-fit-reads
-use Rattle.uc8253.proofs.foreign_contents.Reads as foreign-contents-reads
 
--- src/lib.rt:74:8
 foreign-requires : tie.Need-foreign-requires
 foreign-requires c κs = search needs
 
--- src/lib.rt:75:9
 returns : tie.Need-returns
 unfolding turnedBack
 returns c = yes _ (sym (c .before .foreign .ensures) ∙ c .if1 .taken) refl
 
--- src/lib.rt:78:8
 lengths-fit-requires : tie.Need-lengths-fit-requires
 lengths-fit-requires c κs = search needs
 
--- src/lib.rt:87:12
 ends-refresh-requires : tie.Need-ends-refresh-requires
 ends-refresh-requires c κs = search needs
 
--- src/lib.rt:88:13
 foreign-contents-requires : tie.Need-foreign-contents-requires
 foreign-contents-requires c κs = search needs
 
--- src/lib.rt:88:13
 returns-2 : tie.Need-returns-2
 unfolding turnedBack
 returns-2 c = no _ (sym (c .before .before .before .before .before .before .before .foreign .ensures) ∙ c .before .before .before .before .before .before .if1 .left) (yes _ (sym (c .before .before .before .before .lengths-fit .ensures) ∙ c .before .before .before .if2 .taken) (contents _ _ (sym (c .before .before .ends-refresh .ensures) ∙ c .before .if3 .taken) (c .foreign-contents .ensures)))
 
--- src/lib.rt:90:9
 returns-3 : tie.Need-returns-3
 unfolding turnedBack
 returns-3 c = no _ (sym (c .before .before .before .before .before .before .foreign .ensures) ∙ c .before .before .before .before .before .if1 .left) (yes _ (sym (c .before .before .before .lengths-fit .ensures) ∙ c .before .before .if2 .taken) (no _ (not-both _ (sym (c .before .ends-refresh .ensures) ∙ c .if3 .left)) refl))
 
--- src/lib.rt:61:1
 returns-4 : tie.Need-returns-4
 unfolding turnedBack
 returns-4 c = no _ (sym (c .before .before .before .before .foreign .ensures) ∙ c .before .before .before .if1 .left) (no _ (sym (c .before .lengths-fit .ensures) ∙ c .if2 .left) refl)

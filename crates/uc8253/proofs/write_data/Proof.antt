@@ -1,74 +1,55 @@
+-- `uc8253::write_data` meets its contract: turned back, or the data byte at its time.
 use Rattle.uc8253.proofs.Called.{called-no, called-yes, ready-arrive}
-use mathlib.Core.Path.{refl, sym, ap, _∙_}
+use mathlib.Core.Path.{sym, _∙_}
 use borrow.Author.Needs.{needs}
 use Rattle.uc8253.proofs.write_data.Statement.{statement}
 use Rattle.uc8253.proofs.write_data.Tie as tie
-use Rattle.uc8253.proofs.write_data.Reads as reads
-use Rattle.uc8253.proofs.write_data.Lts as lts
-use Rattle.uc8253.proofs.data_at.Reads as data-at-reads
-use Rattle.uc8253.proofs.turned_back.Reads as turned-back-reads
 
--- src/lib.rt:236:9
 turned-back-requires : tie.Need-turned-back-requires
 turned-back-requires c κs = search needs
 
--- src/lib.rt:238:9
 same-length : tie.Need-same-length
 same-length c = search needs
 
--- src/lib.rt:238:9
 same-length-2 : tie.Need-same-length-2
 same-length-2 c = search needs
 
--- src/lib.rt:238:9
 same-length-3 : tie.Need-same-length-3
 same-length-3 c = search needs
 
--- src/lib.rt:238:9
 same-length-4 : tie.Need-same-length-4
 same-length-4 c = search needs
 
--- src/lib.rt:238:9
 same-length-5 : tie.Need-same-length-5
 same-length-5 c = search needs
 
--- src/lib.rt:238:9
 same-length-6 : tie.Need-same-length-6
 same-length-6 c = search needs
 
--- src/lib.rt:238:9
 returns : tie.Need-returns
 returns c = (called-no _ _ _ _ (c .before .turned-back .ensures) _ (c .if1 .taken), c .before .turned-back .ensures)
 
--- src/lib.rt:240:9
 data-at-requires : tie.Need-data-at-requires
 data-at-requires c κs = ready-arrive _ _ _ (sym (c .before .before .before .before .before .before .before .turned-back .ensures) ∙ c .before .before .before .before .before .before .if1 .left)
 
--- src/lib.rt:221:1
 same-length-7 : tie.Need-same-length-7
 same-length-7 c = search needs
 
--- src/lib.rt:221:1
 same-length-8 : tie.Need-same-length-8
 same-length-8 c = search needs
 
--- src/lib.rt:221:1
 same-length-9 : tie.Need-same-length-9
 same-length-9 c = search needs
 
--- src/lib.rt:221:1
 same-length-10 : tie.Need-same-length-10
 same-length-10 c = search needs
 
--- src/lib.rt:221:1
 same-length-11 : tie.Need-same-length-11
 same-length-11 c = search needs
 
--- src/lib.rt:221:1
 same-length-12 : tie.Need-same-length-12
 same-length-12 c = search needs
 
--- src/lib.rt:221:1
 returns-2 : tie.Need-returns-2
 returns-2 c = (called-yes _ _ _ _ (c .before .before .before .before .before .before .before .before .before .before .before .before .before .before .before .before .before .turned-back .ensures) _ _ (c .before .before .before .before .before .before .before .before .before .before .before .before .before .before .before .before .if1 .left) (c .before .before .before .before .before .before .before .before .before .data-at .ensures), sym (c .before .before .before .before .before .before .before .before .before .before .before .before .before .before .before .before .if1 .left) ∙ c .before .before .before .before .before .before .before .before .before .before .before .before .before .before .before .before .before .turned-back .ensures)
 

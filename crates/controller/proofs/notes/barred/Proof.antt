@@ -1,3 +1,4 @@
+-- `controller::notes::barred` meets its contract, by its tests in order.
 use mathlib.Core.Bool.{true, false}
 use Rattle.base.proofs.Sorting.{in-range}
 use Rattle.base.specs.Pick.{oneOf}
@@ -11,12 +12,6 @@ use borrow.Author.Tests.{ne-eqb}
 use borrow.Author.Needs.{needs}
 use Rattle.controller.proofs.notes.barred.Statement.{statement}
 use Rattle.controller.proofs.notes.barred.Tie as tie
-use Rattle.controller.proofs.notes.barred.Reads as reads
-use Rattle.controller.proofs.notes.barred.Lts as lts
-use Rattle.controller.proofs.notes.asleep.Reads as asleep-reads
-use Rattle.controller.proofs.notes.busy.Reads as busy-reads
-use Rattle.controller.proofs.notes.in_reset.Reads as in-reset-reads
-use Rattle.controller.proofs.notes.initialises.Reads as initialises-reads
 
 -- the bytes that a busy controller takes
 abbrev taken : List ℕ
@@ -34,58 +29,46 @@ among x h k = in-range (λ j. oneOf taken j ≡ true) [] 0x70 2 x (refl, (refl, 
 vcom : (x : ℕ) → x ≡ 0x81 → oneOf taken x ≡ true
 vcom x e = rw e
 
--- src/notes.rt:117:8
 in-reset-requires : tie.Need-in-reset-requires
 in-reset-requires c κs = search needs
 
--- src/notes.rt:118:9
 returns : tie.Need-returns
 unfolding barredNote
 returns c = simp (sym (c .before .in-reset .ensures) ∙ c .if1 .taken)
 
--- src/notes.rt:120:8
 initialises-requires : tie.Need-initialises-requires
 initialises-requires c κs = search needs
 
--- src/notes.rt:121:9
 returns-2 : tie.Need-returns-2
 unfolding barredNote
 returns-2 c = simp (sym (c .before .initialises .ensures) ∙ c .if2 .taken, sym (c .before .before .before .in-reset .ensures) ∙ c .before .before .if1 .left)
 
--- src/notes.rt:123:8
 asleep-requires : tie.Need-asleep-requires
 asleep-requires c κs = search needs
 
--- src/notes.rt:124:9
 returns-3 : tie.Need-returns-3
 unfolding barredNote
 returns-3 c = simp (sym (c .before .asleep .ensures) ∙ c .if3 .taken, sym (c .before .before .before .initialises .ensures) ∙ c .before .before .if2 .left, sym (c .before .before .before .before .before .in-reset .ensures) ∙ c .before .before .before .before .if1 .left)
 
--- src/notes.rt:126:8
 busy-requires : tie.Need-busy-requires
 busy-requires c κs = search needs
 
--- src/notes.rt:112:1
 returns-4 : tie.Need-returns-4
 unfolding barredNote
 returns-4 c = no _ (not-either (sym (c .before .before .before .before .before .before .before .before .before .in-reset .ensures) ∙ c .before .before .before .before .before .before .before .before .if1 .left) (sym (c .before .before .before .before .before .before .before .initialises .ensures) ∙ c .before .before .before .before .before .before .if2 .left)) (no _ (sym (c .before .before .before .before .before .asleep .ensures) ∙ c .before .before .before .before .if3 .left) (yes _ (sym (c .before .before .before .busy .ensures) ∙ c .before .before .if4 .taken) (no _ (below _ (c .if5 .taken) (c .before .match .rest .1)) refl)))
 
--- src/notes.rt:112:1
 returns-5 : tie.Need-returns-5
 unfolding barredNote
 returns-5 c = no _ (not-either (sym (c .before .before .before .before .before .before .before .before .before .before .in-reset .ensures) ∙ c .before .before .before .before .before .before .before .before .before .if1 .left) (sym (c .before .before .before .before .before .before .before .before .initialises .ensures) ∙ c .before .before .before .before .before .before .before .if2 .left)) (no _ (sym (c .before .before .before .before .before .before .asleep .ensures) ∙ c .before .before .before .before .before .if3 .left) (yes _ (sym (c .before .before .before .before .busy .ensures) ∙ c .before .before .before .if4 .taken) (no _ (above _ (c .if6 .left) (c .before .before .match .rest .1)) refl)))
 
--- src/notes.rt:112:1
 returns-6 : tie.Need-returns-6
 unfolding barredNote
 returns-6 c = no _ (not-either (sym (c .before .before .before .before .before .before .before .before .in-reset .ensures) ∙ c .before .before .before .before .before .before .before .if1 .left) (sym (c .before .before .before .before .before .before .initialises .ensures) ∙ c .before .before .before .before .before .if2 .left)) (no _ (sym (c .before .before .before .before .asleep .ensures) ∙ c .before .before .before .if3 .left) (yes _ (sym (c .before .before .busy .ensures) ∙ c .before .if4 .taken) (yes _ (vcom _ (c .match .keys1)) refl)))
 
--- src/notes.rt:112:1
 returns-7 : tie.Need-returns-7
 unfolding barredNote
 returns-7 c = no _ (not-either (sym (c .before .before .before .before .before .before .before .before .before .before .in-reset .ensures) ∙ c .before .before .before .before .before .before .before .before .before .if1 .left) (sym (c .before .before .before .before .before .before .before .before .initialises .ensures) ∙ c .before .before .before .before .before .before .before .if2 .left)) (no _ (sym (c .before .before .before .before .before .before .asleep .ensures) ∙ c .before .before .before .before .before .if3 .left) (yes _ (sym (c .before .before .before .before .busy .ensures) ∙ c .before .before .before .if4 .taken) (yes _ (among _ (c .before .if5 .left) (c .if6 .taken)) refl)))
 
--- src/notes.rt:112:1
 returns-8 : tie.Need-returns-8
 unfolding barredNote
 returns-8 c = simp (sym (c .before .busy .ensures) ∙ c .if4 .left, sym (c .before .before .before .asleep .ensures) ∙ c .before .before .if3 .left, sym (c .before .before .before .before .before .initialises .ensures) ∙ c .before .before .before .before .if2 .left, sym (c .before .before .before .before .before .before .before .in-reset .ensures) ∙ c .before .before .before .before .before .before .if1 .left)

@@ -1,3 +1,4 @@
+-- `controller::notes::closing` meets its contract, by the least count, then by the range 20 to 24.
 use Rattle.diagnostic.specs.declared.DiagnosticKind.the-variants.{MissingData}
 use Rattle.controller.specs.declared.notes.Note.the-variants.{Told}
 use borrow.Author.Tests.{lt-ltb, le-ltb, le-leb, lt-leb, eq-eqb, ne-eqb}
@@ -12,9 +13,6 @@ use Rattle.controller.proofs.Chain.{yes, no}
 use borrow.Author.Needs.{needs}
 use Rattle.controller.proofs.notes.closing.Statement.{statement}
 use Rattle.controller.proofs.notes.closing.Tie as tie
-use Rattle.controller.proofs.notes.closing.Reads as reads
-use Rattle.controller.proofs.notes.closing.Lts as lts
-use Rattle.command.proofs.least_count.Reads as least-count-reads
 
 -- 20 to 24
 inside : (x : ℕ) → 0x20 ≤ x → x < 0x25 → between 0x20 0x24 x ≡ true
@@ -26,31 +24,25 @@ below x h = simp (lt-leb 0x20 x h)
 above : (x : ℕ) → 0x20 ≤ x → 0x25 ≤ x → between 0x20 0x24 x ≡ false
 above x h k = simp (le-leb 0x20 x h, lt-leb x 0x24 (omega arith))
 
--- src/notes.rt:39:9
 least-count-requires : tie.Need-least-count-requires
 least-count-requires c κs = search needs
 
--- src/notes.rt:41:9
 returns : tie.Need-returns
 unfolding closingNote
 returns c = yes _ (ap (λ n. ltb (c .before .before .before .args .a .received) n) (sym (c .before .before .least-count .ensures)) ∙ lt-ltb _ _ (c .if1 .taken)) (ap (λ n. Told (MissingData (c .before .before .before .args .a .command) n (c .before .before .before .args .a .received))) (c .before .before .least-count .ensures))
 
--- src/notes.rt:51:17
 returns-2 : tie.Need-returns-2
 unfolding closingNote
 returns-2 c = no _ (ap (λ n. ltb (c .before .before .before .before .before .before .before .args .a .received) n) (sym (c .before .before .before .before .before .before .least-count .ensures)) ∙ le-ltb _ _ (c .before .before .before .before .if1 .left)) (yes _ (inside _ (c .before .before .before .if2 .left) (c .before .before .if3 .taken)) (no _ (ne-eqb _ _ (c .if4 .taken)) refl))
 
--- src/notes.rt:35:1
 returns-3 : tie.Need-returns-3
 unfolding closingNote
 returns-3 c = no _ (ap (λ n. ltb (c .before .before .before .before .before .before .before .args .a .received) n) (sym (c .before .before .before .before .before .before .least-count .ensures)) ∙ le-ltb _ _ (c .before .before .before .before .if1 .left)) (yes _ (inside _ (c .before .before .before .if2 .left) (c .before .before .if3 .taken)) (yes _ (eq-eqb _ _ (c .if4 .left)) refl))
 
--- src/notes.rt:35:1
 returns-4 : tie.Need-returns-4
 unfolding closingNote
 returns-4 c = no _ (ap (λ n. ltb (c .before .before .before .before .args .a .received) n) (sym (c .before .before .before .least-count .ensures)) ∙ le-ltb _ _ (c .before .if1 .left)) (no _ (below _ (c .if2 .taken)) refl)
 
--- src/notes.rt:35:1
 returns-5 : tie.Need-returns-5
 unfolding closingNote
 returns-5 c = no _ (ap (λ n. ltb (c .before .before .before .before .before .args .a .received) n) (sym (c .before .before .before .before .least-count .ensures)) ∙ le-ltb _ _ (c .before .before .if1 .left)) (no _ (above _ (c .before .if2 .left) (c .if3 .left)) refl)

@@ -1,47 +1,35 @@
+-- `controller::notes::refresh_note` meets its contract, by its four tests in order.
 use Rattle.controller.specs.Refresh.{refreshNote}
 use mathlib.Core.Path.{sym, _∙_}
 use borrow.Author.Needs.{needs}
 use Rattle.controller.proofs.notes.refresh_note.Statement.{statement}
 use Rattle.controller.proofs.notes.refresh_note.Tie as tie
-use Rattle.controller.proofs.notes.refresh_note.Reads as reads
-use Rattle.controller.proofs.notes.refresh_note.Lts as lts
-use Rattle.registers.proofs.psr_kw.Reads as psr-kw-reads
-use Rattle.registers.proofs.psr_reg.Reads as psr-reg-reads
-use Rattle.registers.proofs.psr_shd_n.Reads as psr-shd-n-reads
 
--- src/notes.rt:140:8
 psr-reg-requires : tie.Need-psr-reg-requires
 psr-reg-requires c κs = search needs
 
--- src/notes.rt:141:12
 psr-kw-requires : tie.Need-psr-kw-requires
 psr-kw-requires c κs = search needs
 
--- src/notes.rt:142:16
 psr-shd-n-requires : tie.Need-psr-shd-n-requires
 psr-shd-n-requires c κs = search needs
 
--- src/notes.rt:144:21
 returns : tie.Need-returns
 unfolding refreshNote
 returns c = simp (c .if4 .taken, sym (c .before .before .psr-shd-n .ensures) ∙ c .before .if3 .taken, sym (c .before .before .before .before .psr-kw .ensures) ∙ c .before .before .before .if2 .taken, sym (c .before .before .before .before .before .before .psr-reg .ensures) ∙ c .before .before .before .before .before .if1 .taken)
 
--- src/notes.rt:146:17
 returns-2 : tie.Need-returns-2
 unfolding refreshNote
 returns-2 c = simp (c .if4 .left, sym (c .before .before .psr-shd-n .ensures) ∙ c .before .if3 .taken, sym (c .before .before .before .before .psr-kw .ensures) ∙ c .before .before .before .if2 .taken, sym (c .before .before .before .before .before .before .psr-reg .ensures) ∙ c .before .before .before .before .before .if1 .taken)
 
--- src/notes.rt:148:13
 returns-3 : tie.Need-returns-3
 unfolding refreshNote
 returns-3 c = simp (sym (c .before .psr-shd-n .ensures) ∙ c .if3 .left, sym (c .before .before .before .psr-kw .ensures) ∙ c .before .before .if2 .taken, sym (c .before .before .before .before .before .psr-reg .ensures) ∙ c .before .before .before .before .if1 .taken)
 
--- src/notes.rt:150:9
 returns-4 : tie.Need-returns-4
 unfolding refreshNote
 returns-4 c = simp (sym (c .before .psr-kw .ensures) ∙ c .if2 .left, sym (c .before .before .before .psr-reg .ensures) ∙ c .before .before .if1 .taken)
 
--- src/notes.rt:137:1
 returns-5 : tie.Need-returns-5
 unfolding refreshNote
 returns-5 c = simp (sym (c .before .psr-reg .ensures) ∙ c .if1 .left)

@@ -1,39 +1,30 @@
+-- `controller::reads::busy_at` meets its contract, by the reset line.
 use borrow.Author.Needs.{needs}
 use Rattle.controller.proofs.reads.busy_at.Statement.{statement}
 use Rattle.controller.proofs.reads.busy_at.Tie as tie
 use Rattle.controller.proofs.reads.busy_at.Reads as reads
-use Rattle.controller.proofs.reads.busy_at.Lts as lts
-use Rattle.controller.proofs.reads.works.Reads as works-reads
 
--- src/reads.rt:30:27
 enum-told : tie.Need-enum-told
 enum-told c = search needs
 
--- src/reads.rt:31:27
 enum-told-2 : tie.Need-enum-told-2
 enum-told-2 c = search needs
 
--- src/reads.rt:31:27
 works-requires : tie.Need-works-requires
 works-requires c κs = search needs
 
--- src/reads.rt:32:26
 enum-told-3 : tie.Need-enum-told-3
 enum-told-3 c = search needs
 
--- src/reads.rt:32:26
 works-requires-2 : tie.Need-works-requires-2
 works-requires-2 c κs = search needs
 
--- src/reads.rt:24:1
 returns : tie.Need-returns
 returns c = search needs
 
--- src/reads.rt:24:1
 returns-2 : tie.Need-returns-2
 returns-2 c = simp (c .works .ensures, c .before .enum-told2 .given .1)
 
--- src/reads.rt:24:1
 returns-3 : tie.Need-returns-3
 returns-3 c = simp (c .works2 .ensures, c .before .enum-told3 .given .1)
 

@@ -1,27 +1,21 @@
+-- `controller::reads::driven_byte` meets its contract, by the variant.
 use borrow.Author.Needs.{needs}
 use Rattle.controller.proofs.reads.driven_byte.Statement.{statement}
 use Rattle.controller.proofs.reads.driven_byte.Tie as tie
 use Rattle.controller.proofs.reads.driven_byte.Reads as reads
-use Rattle.controller.proofs.reads.driven_byte.Lts as lts
-use Rattle.controller.proofs.reads.uc8279d_byte.Reads as uc8279d-byte-reads
 
--- src/reads.rt:125:28
 enum-told : tie.Need-enum-told
 enum-told c = search needs
 
--- src/reads.rt:126:29
 enum-told-2 : tie.Need-enum-told-2
 enum-told-2 c = search needs
 
--- src/reads.rt:126:29
 uc8279d-byte-requires : tie.Need-uc8279d-byte-requires
 uc8279d-byte-requires c κs = search needs
 
--- src/reads.rt:119:1
 returns : tie.Need-returns
 returns c = search needs
 
--- src/reads.rt:119:1
 returns-2 : tie.Need-returns-2
 returns-2 c = simp (c .uc8279d-byte .ensures, c .before .enum-told2 .given .1)
 

@@ -1,28 +1,23 @@
+-- `controller::refused::bad_area` meets its contract, by its four tests.
 use Rattle.controller.proofs.Chain.{passed}
 use Rattle.controller.specs.TurnedBack.{badArea}
 use mathlib.Core.Path.{refl}
 use borrow.Author.Tests.{lt-ltb, le-ltb}
 use Rattle.controller.proofs.refused.bad_area.Statement.{statement}
 use Rattle.controller.proofs.refused.bad_area.Tie as tie
-use Rattle.controller.proofs.refused.bad_area.Reads as reads
-use Rattle.controller.proofs.refused.bad_area.Lts as lts
 
--- src/refused.rt:55:9
 returns : tie.Need-returns
 unfolding badArea
 returns c = simp (lt-ltb _ _ (c .if1 .taken))
 
--- src/refused.rt:58:9
 returns-2 : tie.Need-returns-2
 unfolding badArea
 returns-2 c = simp (lt-ltb _ _ (c .if2 .taken), le-ltb _ _ (c .before .before .if1 .left))
 
--- src/refused.rt:61:9
 returns-3 : tie.Need-returns-3
 unfolding badArea
 returns-3 c = simp (lt-ltb _ _ (c .if3 .taken), le-ltb _ _ (c .before .before .if2 .left), le-ltb _ _ (c .before .before .before .before .if1 .left))
 
--- src/refused.rt:51:1
 returns-4 : tie.Need-returns-4
 unfolding badArea
 returns-4 c = passed _ (le-ltb _ _ (c .before .before .before .before .before .if1 .left)) (passed _ (le-ltb _ _ (c .before .before .before .if2 .left)) (passed _ (le-ltb _ _ (c .before .if3 .left)) refl))

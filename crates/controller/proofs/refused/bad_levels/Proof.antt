@@ -1,23 +1,19 @@
+-- `controller::refused::bad_levels` meets its contract, by its three tests.
 use Rattle.controller.proofs.Chain.{passed}
 use Rattle.controller.specs.TurnedBack.{badLevels}
 use mathlib.Core.Path.{refl}
 use borrow.Author.Tests.{lt-ltb, le-ltb}
 use Rattle.controller.proofs.refused.bad_levels.Statement.{statement}
 use Rattle.controller.proofs.refused.bad_levels.Tie as tie
-use Rattle.controller.proofs.refused.bad_levels.Reads as reads
-use Rattle.controller.proofs.refused.bad_levels.Lts as lts
 
--- src/refused.rt:111:9
 returns : tie.Need-returns
 unfolding badLevels
 returns c = simp (lt-ltb _ _ (c .if1 .taken))
 
--- src/refused.rt:114:9
 returns-2 : tie.Need-returns-2
 unfolding badLevels
 returns-2 c = simp (lt-ltb _ _ (c .if2 .taken), le-ltb _ _ (c .before .before .if1 .left))
 
--- src/refused.rt:107:1
 returns-3 : tie.Need-returns-3
 unfolding badLevels
 returns-3 c = passed _ (le-ltb _ _ (c .before .before .before .if1 .left)) (passed _ (le-ltb _ _ (c .before .if2 .left)) refl)

@@ -1,36 +1,27 @@
+-- `controller::refused::bad_registers` meets its contract, part by part.
 use Rattle.controller.specs.TurnedBack.{badRegisters}
 use mathlib.Core.Path.{sym, _∙_}
 use borrow.Author.Needs.{needs}
 use Rattle.controller.proofs.refused.bad_registers.Statement.{statement}
 use Rattle.controller.proofs.refused.bad_registers.Tie as tie
-use Rattle.controller.proofs.refused.bad_registers.Reads as reads
-use Rattle.controller.proofs.refused.bad_registers.Lts as lts
-use Rattle.controller.proofs.refused.bad_area.Reads as bad-area-reads
-use Rattle.controller.proofs.refused.bad_pair.Reads as bad-pair-reads
 
--- src/refused.rt:81:8
 bad-area-requires : tie.Need-bad-area-requires
 bad-area-requires c κs = search needs
 
--- src/refused.rt:82:9
 returns : tie.Need-returns
 unfolding badRegisters
 returns c = simp (sym (c .before .bad-area .ensures) ∙ c .if1 .taken)
 
--- src/refused.rt:84:8
 bad-pair-requires : tie.Need-bad-pair-requires
 bad-pair-requires c κs = search needs
 
--- src/refused.rt:85:9
 returns-2 : tie.Need-returns-2
 unfolding badRegisters
 returns-2 c = simp (sym (c .before .bad-pair .ensures) ∙ c .if2 .taken, sym (c .before .before .before .bad-area .ensures) ∙ c .before .before .if1 .left)
 
--- src/refused.rt:87:5
 bad-pair-requires-2 : tie.Need-bad-pair-requires-2
 bad-pair-requires-2 c κs = search needs
 
--- src/refused.rt:75:1
 returns-3 : tie.Need-returns-3
 unfolding badRegisters
 returns-3 c = simp (c .bad-pair2 .ensures, sym (c .before .before .bad-pair .ensures) ∙ c .before .if2 .left, sym (c .before .before .before .before .bad-area .ensures) ∙ c .before .before .before .if1 .left)

@@ -1,39 +1,30 @@
+-- `controller::refused::bad_stage` meets its contract, by the command under way.
 use borrow.Author.Tests.{lt-ltb, le-ltb}
 use borrow.Author.Needs.{needs}
 use Rattle.controller.proofs.refused.bad_stage.Statement.{statement}
 use Rattle.controller.proofs.refused.bad_stage.Tie as tie
-use Rattle.controller.proofs.refused.bad_stage.Reads as reads
-use Rattle.controller.proofs.refused.bad_stage.Lts as lts
 
--- src/refused.rt:96:26
 enum-told : tie.Need-enum-told
 enum-told c = search needs
 
--- src/refused.rt:97:30
 enum-told-2 : tie.Need-enum-told-2
 enum-told-2 c = search needs
 
--- src/refused.rt:98:25
 enum-known-current : tie.Need-enum-known-current
 enum-known-current c = search needs
 
--- src/refused.rt:100:17
 returns : tie.Need-returns
 returns c = simp (lt-ltb _ _ (c .if1 .taken), c .before .before .before .current .given .1)
 
--- src/refused.rt:102:13
 add-result : tie.Need-add-result
 add-result c = search needs
 
--- src/refused.rt:91:1
 returns-2 : tie.Need-returns-2
 returns-2 c = search needs
 
--- src/refused.rt:91:1
 returns-3 : tie.Need-returns-3
 returns-3 c = search needs
 
--- src/refused.rt:91:1
 returns-4 : tie.Need-returns-4
 returns-4 c = simp (le-ltb _ _ (c .before .if1 .left), c .before .before .before .before .current .given .1)
 

@@ -1,89 +1,68 @@
-use Rattle.controller.specs.TurnedBack.{refreshRuns}
+-- `controller::refused::ends_refresh` meets its contract, by what runs, its end and the reset line.
+use Rattle.controller.specs.TurnedBack.{refreshRuns, endsRefresh}
 use lib.Dec.{leb}
 use Rattle.controller.proofs.Chain.{also, held, passed}
-use Rattle.controller.specs.TurnedBack.{endsRefresh}
 use mathlib.Core.Path.{sym, _∙_, ap}
 use borrow.Author.Tests.{le-leb, lt-leb}
 use borrow.Author.Needs.{needs}
 use Rattle.controller.proofs.refused.ends_refresh.Statement.{statement}
 use Rattle.controller.proofs.refused.ends_refresh.Tie as tie
-use Rattle.controller.proofs.refused.ends_refresh.Reads as reads
-use Rattle.controller.proofs.refused.ends_refresh.Lts as lts
-use Rattle.base.proofs.greatest.Reads as greatest-reads
-use Rattle.controller.proofs.refused.cuts.Reads as cuts-reads
 
--- src/refused.rt:219:26
 enum-told : tie.Need-enum-told
 enum-told c = search needs
 
--- src/refused.rt:220:26
 enum-told-2 : tie.Need-enum-told-2
 enum-told-2 c = search needs
 
--- src/refused.rt:221:27
 enum-told-3 : tie.Need-enum-told-3
 enum-told-3 c = search needs
 
--- src/refused.rt:222:28
 enum-told-4 : tie.Need-enum-told-4
 enum-told-4 c = search needs
 
--- src/refused.rt:223:28
 enum-told-5 : tie.Need-enum-told-5
 enum-told-5 c = search needs
 
--- src/refused.rt:224:32
 enum-told-6 : tie.Need-enum-told-6
 enum-told-6 c = search needs
 
--- src/refused.rt:226:37
 enum-told-7 : tie.Need-enum-told-7
 enum-told-7 c = search needs
 
--- src/refused.rt:226:37
 greatest-requires : tie.Need-greatest-requires
 greatest-requires c κs = search needs
 
--- src/refused.rt:227:17
 returns : tie.Need-returns
 unfolding endsRefresh
 returns c = also {a = refreshRuns (c .before .before .before .before .before .before .before .args .p .operation .work)} _ (simp (c .before .before .before .enum-told7 .given .1)) (held _ (ap (leb (c .before .before .before .before .before .before .before .args .p .operation .until)) (sym (c .before .before .greatest .ensures)) ∙ le-leb _ _ (c .if1 .taken)))
 
--- src/refused.rt:229:13
 cuts-requires : tie.Need-cuts-requires
 cuts-requires c κs = search needs
 
--- src/refused.rt:211:1
 returns-2 : tie.Need-returns-2
 unfolding endsRefresh
 returns-2 c = simp (c .enum-told .given .1)
 
--- src/refused.rt:211:1
 returns-3 : tie.Need-returns-3
 unfolding endsRefresh
 returns-3 c = simp (c .enum-told2 .given .1)
 
--- src/refused.rt:211:1
 returns-4 : tie.Need-returns-4
 unfolding endsRefresh
 returns-4 c = simp (c .enum-told3 .given .1)
 
--- src/refused.rt:211:1
 returns-5 : tie.Need-returns-5
 unfolding endsRefresh
 returns-5 c = simp (c .enum-told4 .given .1)
 
--- src/refused.rt:211:1
 returns-6 : tie.Need-returns-6
 unfolding endsRefresh
 returns-6 c = simp (c .enum-told5 .given .1)
 
--- src/refused.rt:211:1
 returns-7 : tie.Need-returns-7
 unfolding endsRefresh
 returns-7 c = simp (c .enum-told6 .given .1)
 
--- src/refused.rt:211:1
 returns-8 : tie.Need-returns-8
 unfolding endsRefresh
 returns-8 c = also {a = refreshRuns (c .before .before .before .before .before .before .before .before .args .p .operation .work)} _ (simp (c .before .before .before .before .enum-told7 .given .1)) (passed _ (ap (leb (c .before .before .before .before .before .before .before .before .args .p .operation .until)) (sym (c .before .before .before .greatest .ensures)) ∙ lt-leb _ _ (c .before .if1 .left)) (c .cuts .ensures))

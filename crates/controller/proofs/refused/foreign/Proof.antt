@@ -1,53 +1,39 @@
+-- `controller::refused::foreign` meets its contract, part by part.
 use Rattle.controller.proofs.Chain.{held, passed}
 use mathlib.Core.Path.{refl, sym, _∙_}
 use Rattle.controller.specs.TurnedBack.{foreignRecord}
 use borrow.Author.Needs.{needs}
 use Rattle.controller.proofs.refused.foreign.Statement.{statement}
 use Rattle.controller.proofs.refused.foreign.Tie as tie
-use Rattle.controller.proofs.refused.foreign.Reads as reads
-use Rattle.controller.proofs.refused.foreign.Lts as lts
-use Rattle.controller.proofs.refused.bad_config.Reads as bad-config-reads
-use Rattle.controller.proofs.refused.bad_registers.Reads as bad-registers-reads
-use Rattle.controller.proofs.refused.bad_stage.Reads as bad-stage-reads
-use Rattle.controller.proofs.refused.bad_work.Reads as bad-work-reads
 
--- src/refused.rt:149:8
 bad-config-requires : tie.Need-bad-config-requires
 bad-config-requires c κs = search needs
 
--- src/refused.rt:150:9
 returns : tie.Need-returns
 unfolding foreignRecord
 returns c = held _ (sym (c .before .bad-config .ensures) ∙ c .if1 .taken)
 
--- src/refused.rt:153:8
 bad-registers-requires : tie.Need-bad-registers-requires
 bad-registers-requires c κs = search needs
 
--- src/refused.rt:154:9
 returns-2 : tie.Need-returns-2
 unfolding foreignRecord
 returns-2 c = passed _ (sym (c .before .before .before .before .bad-config .ensures) ∙ c .before .before .before .if1 .left) (held _ (sym (c .before .bad-registers .ensures) ∙ c .if2 .taken))
 
--- src/refused.rt:157:8
 bad-stage-requires : tie.Need-bad-stage-requires
 bad-stage-requires c κs = search needs
 
--- src/refused.rt:158:9
 returns-3 : tie.Need-returns-3
 unfolding foreignRecord
 returns-3 c = passed _ (sym (c .before .before .before .before .before .before .before .bad-config .ensures) ∙ c .before .before .before .before .before .before .if1 .left) (passed _ (sym (c .before .before .before .before .bad-registers .ensures) ∙ c .before .before .before .if2 .left) (held _ (sym (c .before .bad-stage .ensures) ∙ c .if3 .taken)))
 
--- src/refused.rt:163:8
 bad-work-requires : tie.Need-bad-work-requires
 bad-work-requires c κs = search needs
 
--- src/refused.rt:164:9
 returns-4 : tie.Need-returns-4
 unfolding foreignRecord
 returns-4 c = passed _ (sym (c .before .before .before .before .before .before .before .before .before .before .before .before .bad-config .ensures) ∙ c .before .before .before .before .before .before .before .before .before .before .before .if1 .left) (passed _ (sym (c .before .before .before .before .before .before .before .before .before .bad-registers .ensures) ∙ c .before .before .before .before .before .before .before .before .if2 .left) (passed _ (sym (c .before .before .before .before .before .before .bad-stage .ensures) ∙ c .before .before .before .before .before .if3 .left) (held _ (sym (c .before .bad-work .ensures) ∙ c .if4 .taken))))
 
--- src/refused.rt:145:1
 returns-5 : tie.Need-returns-5
 unfolding foreignRecord
 returns-5 c = passed _ (sym (c .before .before .before .before .before .before .before .before .before .before .before .before .before .bad-config .ensures) ∙ c .before .before .before .before .before .before .before .before .before .before .before .before .if1 .left) (passed _ (sym (c .before .before .before .before .before .before .before .before .before .before .bad-registers .ensures) ∙ c .before .before .before .before .before .before .before .before .before .if2 .left) (passed _ (sym (c .before .before .before .before .before .before .before .bad-stage .ensures) ∙ c .before .before .before .before .before .before .if3 .left) (passed _ (sym (c .before .before .bad-work .ensures) ∙ c .before .if4 .left) refl)))

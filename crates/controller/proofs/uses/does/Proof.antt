@@ -1,53 +1,42 @@
+-- `controller::uses::does` meets its contract, by the command byte.
 use Rattle.controller.specs.DataByte.{doing}
 use mathlib.Core.Path.{sym, _∙_}
 use borrow.Author.Tests.{eq-eqb, ne-eqb}
 use borrow.Author.Needs.{needs}
 use Rattle.controller.proofs.uses.does.Statement.{statement}
 use Rattle.controller.proofs.uses.does.Tie as tie
-use Rattle.controller.proofs.uses.does.Reads as reads
-use Rattle.controller.proofs.uses.does.Lts as lts
-use Rattle.registers.proofs.psr_rst_n.Reads as psr-rst-n-reads
 
--- src/uses.rt:41:17
 returns : tie.Need-returns
 unfolding doing
 returns c = simp (ne-eqb _ _ (c .if1 .taken), c .before .match .keys1)
 
--- src/uses.rt:43:16
 psr-rst-n-requires : tie.Need-psr-rst-n-requires
 psr-rst-n-requires c κs = search needs
 
--- src/uses.rt:44:17
 returns-2 : tie.Need-returns-2
 unfolding doing
 returns-2 c = simp (sym (c .before .psr-rst-n .ensures) ∙ c .if2 .taken, eq-eqb _ _ (c .before .before .if1 .left), c .before .before .before .match .keys1)
 
--- src/uses.rt:50:17
 returns-3 : tie.Need-returns-3
 unfolding doing
 returns-3 c = simp (eq-eqb _ _ (c .if3 .taken), c .before .match .keys2)
 
--- src/uses.rt:35:1
 returns-4 : tie.Need-returns-4
 unfolding doing
 returns-4 c = simp (sym (c .before .psr-rst-n .ensures) ∙ c .if2 .left, eq-eqb _ _ (c .before .before .if1 .left), c .before .before .before .match .keys1)
 
--- src/uses.rt:35:1
 returns-5 : tie.Need-returns-5
 unfolding doing
 returns-5 c = simp (ne-eqb _ _ (c .if3 .left), c .before .match .keys2)
 
--- src/uses.rt:35:1
 returns-6 : tie.Need-returns-6
 unfolding doing
 returns-6 c = simp (c .match .keys3)
 
--- src/uses.rt:35:1
 returns-7 : tie.Need-returns-7
 unfolding doing
 returns-7 c = simp (c .match .keys4)
 
--- src/uses.rt:35:1
 returns-8 : tie.Need-returns-8
 unfolding doing
 returns-8 c = simp (ne-eqb _ _ (c .match .rest .0 .0 .0 .1), ne-eqb _ _ (c .match .rest .0 .0 .1), ne-eqb _ _ (c .match .rest .0 .1), ne-eqb _ _ (c .match .rest .1))

@@ -1,64 +1,49 @@
+-- `controller::uses::purpose` meets its contract, by whether the command takes the byte, then by its kind.
 use Rattle.controller.proofs.Chain.{yes}
 use Rattle.controller.specs.DataByte.{purposeOf}
 use mathlib.Core.Path.{sym, _∙_}
 use borrow.Author.Needs.{needs}
 use Rattle.controller.proofs.uses.purpose.Statement.{statement}
 use Rattle.controller.proofs.uses.purpose.Tie as tie
-use Rattle.controller.proofs.uses.purpose.Reads as reads
-use Rattle.controller.proofs.uses.purpose.Lts as lts
-use Rattle.command.proofs.takes.Reads as takes-reads
-use Rattle.controller.proofs.uses.does.Reads as does-reads
 
--- src/uses.rt:64:8
 takes-requires : tie.Need-takes-requires
 takes-requires c κs = search needs
 
--- src/uses.rt:66:31
 enum-told : tie.Need-enum-told
 enum-told c = search needs
 
--- src/uses.rt:66:31
 does-requires : tie.Need-does-requires
 does-requires c κs = search needs
 
--- src/uses.rt:67:27
 enum-told-2 : tie.Need-enum-told-2
 enum-told-2 c = search needs
 
--- src/uses.rt:68:37
 enum-told-3 : tie.Need-enum-told-3
 enum-told-3 c = search needs
 
--- src/uses.rt:69:30
 enum-told-4 : tie.Need-enum-told-4
 enum-told-4 c = search needs
 
--- src/uses.rt:60:1
 returns : tie.Need-returns
 unfolding purposeOf
 returns c = yes _ (sym (c .before .before .before .before .takes .ensures) ∙ c .before .before .before .if1 .taken) (simp (c .does .ensures, c .before .enum-told .given .1))
 
--- src/uses.rt:60:1
 returns-2 : tie.Need-returns-2
 unfolding purposeOf
 returns-2 c = yes _ (sym (c .before .before .before .takes .ensures) ∙ c .before .before .if1 .taken) (simp (c .enum-told2 .given .1))
 
--- src/uses.rt:60:1
 returns-3 : tie.Need-returns-3
 unfolding purposeOf
 returns-3 c = yes _ (sym (c .before .before .before .takes .ensures) ∙ c .before .before .if1 .taken) (simp (c .enum-told3 .given .1))
 
--- src/uses.rt:60:1
 returns-4 : tie.Need-returns-4
 unfolding purposeOf
 returns-4 c = yes _ (sym (c .before .before .before .takes .ensures) ∙ c .before .before .if1 .taken) (simp (c .enum-told4 .given .1))
 
--- src/uses.rt:60:1
 returns-5 : tie.Need-returns-5
 unfolding purposeOf
 returns-5 c = simp (c .if2 .taken, sym (c .before .before .takes .ensures) ∙ c .before .if1 .left)
 
--- src/uses.rt:60:1
 returns-6 : tie.Need-returns-6
 unfolding purposeOf
 returns-6 c = simp (c .if2 .left, sym (c .before .before .takes .ensures) ∙ c .before .if1 .left)

@@ -1,39 +1,29 @@
+-- `uc8253::arriving::arrive` meets its contract: the new clock decides whether what runs has come to its end.
 use Rattle.uc8253.proofs.Arrived.{arrived-due, arrived-early, ends-due}
 use Rattle.controller.specs.World.{world, buffers}
 use mathlib.Core.Path.{_∙_}
 use borrow.Author.Needs.{needs}
 use Rattle.uc8253.proofs.arriving.arrive.Statement.{statement}
 use Rattle.uc8253.proofs.arriving.arrive.Tie as tie
-use Rattle.uc8253.proofs.arriving.arrive.Reads as reads
-use Rattle.uc8253.proofs.arriving.arrive.Lts as lts
-use Rattle.base.proofs.greatest.Reads as greatest-reads
-use Rattle.uc8253.proofs.arriving.end.Reads as end-reads
 
--- src/arriving.rt:84:5
 greatest-requires : tie.Need-greatest-requires
 greatest-requires c κs = search needs
 
--- src/arriving.rt:86:9
 end-requires : tie.Need-end-requires
 end-requires c κs = (c .before .before .before .before .before .before .before .before .before .before .pre .0, λ h. c .before .before .before .before .before .before .before .before .before .before .pre .1 (ends-due _ _ _ _ (c .before .before .before .before .before .greatest .ensures) (c .before .before .before .if1 .taken) h))
 
--- src/arriving.rt:86:9
 same-length : tie.Need-same-length
 same-length c = search needs
 
--- src/arriving.rt:86:9
 same-length-2 : tie.Need-same-length-2
 same-length-2 c = search needs
 
--- src/arriving.rt:86:9
 same-length-3 : tie.Need-same-length-3
 same-length-3 c = search needs
 
--- src/arriving.rt:86:9
 returns : tie.Need-returns
 returns c = λ rows. c .before .before .before .before .before .end .ensures rows ∙ arrived-due _ _ (world _ (buffers _ _ _ _ _ rows)) (c .before .before .before .before .before .before .before .before .before .before .before .greatest .ensures) (c .before .before .before .before .before .before .before .before .before .if1 .taken)
 
--- src/arriving.rt:70:1
 returns-2 : tie.Need-returns-2
 returns-2 c = λ rows. arrived-early _ _ (world _ (buffers _ _ _ _ _ rows)) (c .before .before .greatest .ensures) (c .if1 .left)
 

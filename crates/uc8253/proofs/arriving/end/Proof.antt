@@ -1,3 +1,4 @@
+-- `uc8253::arriving::end` meets its contract, by what runs.
 use Rattle.uc8253.proofs.ByCase.{by-work, record-of}
 use Rattle.controller.specs.TurnedBack.{refreshRuns}
 use Rattle.controller.specs.Arrives.{rest}
@@ -6,106 +7,76 @@ use mathlib.Core.Path.{refl, ap, _∙_}
 use borrow.Author.Needs.{needs}
 use Rattle.uc8253.proofs.arriving.end.Statement.{statement}
 use Rattle.uc8253.proofs.arriving.end.Tie as tie
-use Rattle.uc8253.proofs.arriving.end.Reads as reads
-use Rattle.uc8253.proofs.arriving.end.Lts as lts
-use Rattle.uc8253.proofs.arriving.fall_asleep.Reads as fall-asleep-reads
-use Rattle.uc8253.proofs.arriving.powered.Reads as powered-reads
-use Rattle.uc8253.proofs.refreshes.finish_whole.Reads as finish-whole-reads
-use Rattle.uc8253.proofs.telling.rested.Reads as rested-reads
 
--- src/arriving.rt:56:26
 enum-told : tie.Need-enum-told
 enum-told c = search needs
 
--- src/arriving.rt:57:26
 enum-told-2 : tie.Need-enum-told-2
 enum-told-2 c = search needs
 
--- src/arriving.rt:57:26
 powered-requires : tie.Need-powered-requires
 powered-requires c κs = search needs
 
--- src/arriving.rt:58:27
 enum-told-3 : tie.Need-enum-told-3
 enum-told-3 c = search needs
 
--- src/arriving.rt:58:27
 powered-requires-2 : tie.Need-powered-requires-2
 powered-requires-2 c κs = search needs
 
--- src/arriving.rt:59:28
 enum-told-4 : tie.Need-enum-told-4
 enum-told-4 c = search needs
 
--- src/arriving.rt:59:28
 fall-asleep-requires : tie.Need-fall-asleep-requires
 fall-asleep-requires c κs = search needs
 
--- src/arriving.rt:60:28
 enum-told-5 : tie.Need-enum-told-5
 enum-told-5 c = search needs
 
--- src/arriving.rt:60:28
 rested-requires : tie.Need-rested-requires
 rested-requires c κs = search needs
 
--- src/arriving.rt:61:32
 enum-told-6 : tie.Need-enum-told-6
 enum-told-6 c = search needs
 
--- src/arriving.rt:61:32
 rested-requires-2 : tie.Need-rested-requires-2
 rested-requires-2 c κs = search needs
 
--- src/arriving.rt:62:23
 enum-known-work : tie.Need-enum-known-work
 enum-known-work c = search needs
 
--- src/arriving.rt:63:17
 finish-whole-requires : tie.Need-finish-whole-requires
 finish-whole-requires c κs = (c .before .before .before .before .before .before .before .before .before .before .before .pre .0, c .before .before .before .before .before .before .before .before .before .before .before .pre .1 (ap refreshRuns (c .before .before .before .before .work .given .1)))
 
--- src/arriving.rt:64:13
 rested-requires-3 : tie.Need-rested-requires-3
 rested-requires-3 c κs = search needs
 
--- src/arriving.rt:41:1
 returns : tie.Need-returns
 returns c = λ rows. by-work _ _ _ (c .enum-told .given .1) refl
 
--- src/arriving.rt:41:1
 returns-2 : tie.Need-returns-2
 returns-2 c = λ rows. by-work _ _ _ (c .before .enum-told2 .given .1) (record-of _ (c .powered .ensures))
 
--- src/arriving.rt:41:1
 returns-3 : tie.Need-returns-3
 returns-3 c = λ rows. by-work _ _ _ (c .before .enum-told3 .given .1) (record-of _ (c .powered2 .ensures))
 
--- src/arriving.rt:41:1
 returns-4 : tie.Need-returns-4
 returns-4 c = λ rows. by-work _ _ _ (c .before .enum-told4 .given .1) (record-of _ (c .fall-asleep .ensures))
 
--- src/arriving.rt:41:1
 returns-5 : tie.Need-returns-5
 returns-5 c = λ rows. by-work _ _ _ (c .before .enum-told5 .given .1) (record-of _ (c .rested .ensures))
 
--- src/arriving.rt:41:1
 returns-6 : tie.Need-returns-6
 returns-6 c = λ rows. by-work _ _ _ (c .before .enum-told6 .given .1) (record-of _ (c .rested2 .ensures))
 
--- src/arriving.rt:41:1
 same-length : tie.Need-same-length
 same-length c = search needs
 
--- src/arriving.rt:41:1
 same-length-2 : tie.Need-same-length-2
 same-length-2 c = search needs
 
--- src/arriving.rt:41:1
 same-length-3 : tie.Need-same-length-3
 same-length-3 c = search needs
 
--- src/arriving.rt:41:1
 returns-7 : tie.Need-returns-7
 returns-7 c = λ rows. by-work _ _ _ (c .before .before .before .before .before .before .before .before .before .before .before .work .given .1) (record-of _ (c .rested3 .ensures) ∙ ap (λ (w : World). onChip (withOperation rest) w) (c .before .before .before .before .before .before .finish-whole .ensures rows))
 

@@ -1,3 +1,4 @@
+-- `uc8253::commands::accept` meets its contract, by the kind of the command.
 use Rattle.uc8253.proofs.Changed.{changed, then, in-case}
 use Rattle.command.specs.declared.kinds.Kind.the-variants as kind
 use Rattle.command.specs.declared.kinds.Kind.{Kind}
@@ -8,103 +9,73 @@ use mathlib.Core.Path.{sym, ap, _∙_}
 use borrow.Author.Needs.{needs}
 use Rattle.uc8253.proofs.commands.accept.Statement.{statement}
 use Rattle.uc8253.proofs.commands.accept.Tie as tie
-use Rattle.uc8253.proofs.commands.accept.Reads as reads
-use Rattle.uc8253.proofs.commands.accept.Lts as lts
-use Rattle.command.proofs.kind.Reads as kind-reads
-use Rattle.uc8253.proofs.commands.begin.Reads as begin-reads
-use Rattle.uc8253.proofs.commands.execute.Reads as execute-reads
-use Rattle.uc8253.proofs.telling.tell.Reads as tell-reads
-use Rattle.uc8253.proofs.telling.with_current.Reads as with-current-reads
 
--- src/commands.rt:133:9
 kind-requires : tie.Need-kind-requires
 kind-requires c κs = search needs
 
--- src/commands.rt:136:29
 enum-told : tie.Need-enum-told
 enum-told c = search needs
 
--- src/commands.rt:136:17
 tell-requires : tie.Need-tell-requires
 tell-requires c κs = search needs
 
--- src/commands.rt:137:13
 with-current-requires : tie.Need-with-current-requires
 with-current-requires c κs = search needs
 
--- src/commands.rt:139:27
 enum-known-sort : tie.Need-enum-known-sort
 enum-known-sort c = search needs
 
--- src/commands.rt:140:17
 tell-requires-2 : tie.Need-tell-requires-2
 tell-requires-2 c κs = search needs
 
--- src/commands.rt:141:13
 begin-requires : tie.Need-begin-requires
 begin-requires c κs = search needs
 
--- src/commands.rt:143:21
 enum-known-sort-2 : tie.Need-enum-known-sort-2
 enum-known-sort-2 c = search needs
 
--- src/commands.rt:144:17
 begin-requires-2 : tie.Need-begin-requires-2
 begin-requires-2 c κs = search needs
 
--- src/commands.rt:145:13
 execute-requires : tie.Need-execute-requires
 execute-requires c κs = search needs
 
--- src/commands.rt:148:39
 enum-told-2 : tie.Need-enum-told-2
 enum-told-2 c = search needs
 
--- src/commands.rt:148:17
 begin-requires-3 : tie.Need-begin-requires-3
 begin-requires-3 c κs = search needs
 
--- src/commands.rt:149:13
 execute-requires-2 : tie.Need-execute-requires-2
 execute-requires-2 c κs = search needs
 
--- src/commands.rt:120:1
 same-length : tie.Need-same-length
 same-length c = search needs
 
--- src/commands.rt:120:1
 returns : tie.Need-returns
 returns c = λ states picture. let g = c .before .before .before .before .before .before .before .before .before .before .before .before .before .args in let w = world (g .p) (buffers (g .old .now) (g .new .now) states (g .table-numbers .now) picture (g .rows .now)) in in-case (λ (x : Kind). sortedBy x (g .command) w) (sym (c .before .before .before .before .before .before .before .kind .ensures) ∙ c .before .before .before .before .before .enum-told .given .1) (then (withCurrent current.Ignoring) (c .with-current .ensures) (c .before .before .before .tell .ensures (w .lent)))
 
--- src/commands.rt:120:1
 same-length-2 : tie.Need-same-length-2
 same-length-2 c = search needs
 
--- src/commands.rt:120:1
 returns-2 : tie.Need-returns-2
 returns-2 c = λ states picture. let g = c .before .before .before .before .before .before .before .before .before .before .before .before .before .before .args in let w = world (g .p) (buffers (g .old .now) (g .new .now) states (g .table-numbers .now) picture (g .rows .now)) in in-case (λ (x : Kind). sortedBy x (g .command) w) (sym (c .before .before .before .before .before .before .before .before .kind .ensures) ∙ c .before .before .before .before .before .before .sort .given .1) (then (begun (g .command) (kind.Unsupported _)) (c .begin .ensures) (c .before .before .before .tell2 .ensures (w .lent)))
 
--- src/commands.rt:120:1
 same-length-3 : tie.Need-same-length-3
 same-length-3 c = search needs
 
--- src/commands.rt:120:1
 same-length-4 : tie.Need-same-length-4
 same-length-4 c = search needs
 
--- src/commands.rt:120:1
 returns-3 : tie.Need-returns-3
 returns-3 c = λ states picture. let g = c .before .before .before .before .before .before .before .before .before .before .before .before .before .before .before .before .before .args in let w = world (g .p) (buffers (g .old .now) (g .new .now) states (g .table-numbers .now) picture (g .rows .now)) in in-case (λ (x : Kind). sortedBy x (g .command) w) (sym (c .before .before .before .before .before .before .before .before .before .before .before .kind .ensures) ∙ c .before .before .before .before .before .before .before .before .before .sort2 .given .1) (c .before .before .before .before .execute .ensures states picture ∙ ap (λ (v : World). executed (g .command) v) (changed (begun (g .command) (kind.Write _)) (g .p) (c .before .before .before .before .before .before .before .begin2 .ensures)))
 
--- src/commands.rt:120:1
 same-length-5 : tie.Need-same-length-5
 same-length-5 c = search needs
 
--- src/commands.rt:120:1
 same-length-6 : tie.Need-same-length-6
 same-length-6 c = search needs
 
--- src/commands.rt:120:1
 returns-4 : tie.Need-returns-4
 returns-4 c = λ states picture. let g = c .before .before .before .before .before .before .before .before .before .before .before .before .before .before .before .before .args in let w = world (g .p) (buffers (g .old .now) (g .new .now) states (g .table-numbers .now) picture (g .rows .now)) in in-case (λ (x : Kind). sortedBy x (g .command) w) (sym (c .before .before .before .before .before .before .before .before .before .before .kind .ensures) ∙ c .before .before .before .before .before .before .before .before .enum-told2 .given .1) (c .before .before .before .before .execute2 .ensures states picture ∙ ap (λ (v : World). executed (g .command) v) (changed (begun (g .command) kind.Read) (g .p) (c .before .before .before .before .before .before .before .begin3 .ensures)))
 

@@ -1,3 +1,4 @@
+-- `uc8253::commands::close` meets its contract, by the command under way.
 use Rattle.uc8253.proofs.Changed.{then, in-case}
 use Rattle.controller.specs.declared.notes.Note.{Note}
 use Rattle.controller.specs.declared.Current.the-variants as current
@@ -8,51 +9,36 @@ use Rattle.controller.specs.Command.{closed, closedBy}
 use borrow.Author.Needs.{needs}
 use Rattle.uc8253.proofs.commands.close.Statement.{statement}
 use Rattle.uc8253.proofs.commands.close.Tie as tie
-use Rattle.uc8253.proofs.commands.close.Reads as reads
-use Rattle.uc8253.proofs.commands.close.Lts as lts
-use Rattle.controller.proofs.closing.Reads as closing-reads
-use Rattle.uc8253.proofs.telling.told.Reads as told-reads
-use Rattle.uc8253.proofs.telling.with_current.Reads as with-current-reads
 
--- src/commands.rt:41:26
 enum-told : tie.Need-enum-told
 enum-told c = search needs
 
--- src/commands.rt:42:30
 enum-told-2 : tie.Need-enum-told-2
 enum-told-2 c = search needs
 
--- src/commands.rt:43:25
 enum-known-current : tie.Need-enum-known-current
 enum-known-current c = search needs
 
--- src/commands.rt:44:35
 closing-requires : tie.Need-closing-requires
 closing-requires c κs = search needs
 
--- src/commands.rt:44:17
 told-requires : tie.Need-told-requires
 told-requires c κs = search needs
 
--- src/commands.rt:45:13
 with-current-requires : tie.Need-with-current-requires
 with-current-requires c κs = search needs
 
--- src/commands.rt:35:1
 returns : tie.Need-returns
 unfolding closed
 returns c = λ b. simp (c .enum-told .given .1)
 
--- src/commands.rt:35:1
 returns-2 : tie.Need-returns-2
 unfolding closed
 returns-2 c = λ b. simp (c .enum-told2 .given .1)
 
--- src/commands.rt:35:1
 same-length : tie.Need-same-length
 same-length c = search needs
 
--- src/commands.rt:35:1
 returns-3 : tie.Need-returns-3
 unfolding closed
 returns-3 c = λ b. let g = c .before .before .before .before .before .before .before .before .before .before .before .args in let w = world (g .p) (withRows (g .rows .now) b) in in-case (λ (x : Current). closedBy x w) (c .before .before .before .before .before .before .before .current .given .1) (then (withCurrent current.Ignoring) (c .with-current .ensures) (c .before .before .before .told .ensures b ∙ ap (λ (n : Note). told n w) (c .before .before .before .before .closing .ensures)))

@@ -1,31 +1,23 @@
+-- `uc8253::commands::command_byte` meets its contract: closing, then sorting.
 use Rattle.controller.specs.Command.{passed, commandByte}
 use Rattle.controller.specs.World.{World, world, buffers}
 use mathlib.Core.Path.{ap, _∙_}
 use borrow.Author.Needs.{needs}
 use Rattle.uc8253.proofs.commands.command_byte.Statement.{statement}
 use Rattle.uc8253.proofs.commands.command_byte.Tie as tie
-use Rattle.uc8253.proofs.commands.command_byte.Reads as reads
-use Rattle.uc8253.proofs.commands.command_byte.Lts as lts
-use Rattle.uc8253.proofs.commands.close.Reads as close-reads
-use Rattle.uc8253.proofs.commands.pass.Reads as pass-reads
 
--- src/commands.rt:190:9
 close-requires : tie.Need-close-requires
 close-requires c κs = search needs
 
--- src/commands.rt:191:5
 pass-requires : tie.Need-pass-requires
 pass-requires c κs = search needs
 
--- src/commands.rt:179:1
 same-length : tie.Need-same-length
 same-length c = search needs
 
--- src/commands.rt:179:1
 same-length-2 : tie.Need-same-length-2
 same-length-2 c = search needs
 
--- src/commands.rt:179:1
 returns : tie.Need-returns
 unfolding commandByte
 returns c = λ states picture. let g = c .before .before .before .before .before .before .before .before .before .before .before .before .before .before .before .args in let w = world (g .p) (buffers (g .old .now) (g .new .now) states (g .table-numbers .now) picture (g .rows .now)) in c .before .before .before .before .pass .ensures states picture ∙ ap (λ (v : World). passed (g .command) v) (c .before .before .before .before .before .before .before .before .before .close .ensures (w .lent))

@@ -1,3 +1,4 @@
+-- `uc8253::data_bytes::data_byte` meets its contract, by the command under way.
 use Rattle.uc8253.proofs.Changed.{then, in-case}
 use Rattle.controller.specs.declared.Current.the-variants as current
 use Rattle.controller.specs.declared.Current.{Current}
@@ -7,63 +8,45 @@ use mathlib.Core.Path.{refl}
 use borrow.Author.Needs.{needs}
 use Rattle.uc8253.proofs.data_bytes.data_byte.Statement.{statement}
 use Rattle.uc8253.proofs.data_bytes.data_byte.Tie as tie
-use Rattle.uc8253.proofs.data_bytes.data_byte.Reads as reads
-use Rattle.uc8253.proofs.data_bytes.data_byte.Lts as lts
-use Rattle.uc8253.proofs.data_bytes.take_byte.Reads as take-byte-reads
-use Rattle.uc8253.proofs.telling.tell.Reads as tell-reads
-use Rattle.uc8253.proofs.telling.with_current.Reads as with-current-reads
 
--- src/data_bytes.rt:161:29
 enum-told : tie.Need-enum-told
 enum-told c = search needs
 
--- src/data_bytes.rt:161:17
 tell-requires : tie.Need-tell-requires
 tell-requires c κs = search needs
 
--- src/data_bytes.rt:162:13
 with-current-requires : tie.Need-with-current-requires
 with-current-requires c κs = search needs
 
--- src/data_bytes.rt:164:30
 enum-told-2 : tie.Need-enum-told-2
 enum-told-2 c = search needs
 
--- src/data_bytes.rt:165:25
 enum-known-current : tie.Need-enum-known-current
 enum-known-current c = search needs
 
--- src/data_bytes.rt:165:36
 take-byte-requires : tie.Need-take-byte-requires
 take-byte-requires c κs = search needs
 
--- src/data_bytes.rt:147:1
 same-length : tie.Need-same-length
 same-length c = search needs
 
--- src/data_bytes.rt:147:1
 returns : tie.Need-returns
 unfolding dataByte
 returns c = λ states numbers picture. let g = c .before .before .before .before .before .before .before .before .before .before .before .args in let w = world (g .p) (buffers (g .old .now) (g .new .now) states numbers picture (g .rows .now)) in in-case (λ (x : Current). givenBy x (g .byte) w) (c .before .before .before .before .before .enum-told .given .1) (then (withCurrent current.Ignoring) (c .with-current .ensures) (c .before .before .before .tell .ensures (w .lent)))
 
--- src/data_bytes.rt:147:1
 returns-2 : tie.Need-returns-2
 unfolding dataByte
 returns-2 c = λ states numbers picture. let g = c .before .before .before .before .before .before .args in let w = world (g .p) (buffers (g .old .now) (g .new .now) states numbers picture (g .rows .now)) in in-case (λ (x : Current). givenBy x (g .byte) w) (c .enum-told2 .given .1) refl
 
--- src/data_bytes.rt:147:1
 same-length-2 : tie.Need-same-length-2
 same-length-2 c = search needs
 
--- src/data_bytes.rt:147:1
 same-length-3 : tie.Need-same-length-3
 same-length-3 c = search needs
 
--- src/data_bytes.rt:147:1
 same-length-4 : tie.Need-same-length-4
 same-length-4 c = search needs
 
--- src/data_bytes.rt:147:1
 returns-3 : tie.Need-returns-3
 unfolding dataByte
 returns-3 c = λ states numbers picture. let g = c .before .before .before .before .before .before .before .before .before .before .before .before .before .before .before .before .before .args in let w = world (g .p) (buffers (g .old .now) (g .new .now) states numbers picture (g .rows .now)) in in-case (λ (x : Current). givenBy x (g .byte) w) (c .before .before .before .before .before .before .before .before .before .before .before .current .given .1) (c .before .before .before .before .before .before .take-byte .ensures states numbers picture)

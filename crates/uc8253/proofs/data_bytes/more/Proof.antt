@@ -1,15 +1,11 @@
+-- `uc8253::data_bytes::more` meets its contract, callee by callee.
 use borrow.Author.Needs.{needs}
 use Rattle.uc8253.proofs.data_bytes.more.Statement.{statement}
 use Rattle.uc8253.proofs.data_bytes.more.Tie as tie
-use Rattle.uc8253.proofs.data_bytes.more.Reads as reads
-use Rattle.uc8253.proofs.data_bytes.more.Lts as lts
-use Rattle.controller.proofs.counted.Reads as counted-reads
 
--- src/data_bytes.rt:30:5
 counted-requires : tie.Need-counted-requires
 counted-requires c κs = search needs
 
--- src/data_bytes.rt:26:1
 returns : tie.Need-returns
 returns c = simp (c .counted .ensures)
 

@@ -1,36 +1,27 @@
+-- `uc8253::data_bytes::past_window` meets its contract, by whether it was reported.
 use Rattle.uc8253.proofs.Changed.{changed, then}
 use Rattle.controller.specs.DataByte.{pastWindow, under, pastOf}
 use Rattle.controller.proofs.Chain.{yes, no}
 use borrow.Author.Needs.{needs}
 use Rattle.uc8253.proofs.data_bytes.past_window.Statement.{statement}
 use Rattle.uc8253.proofs.data_bytes.past_window.Tie as tie
-use Rattle.uc8253.proofs.data_bytes.past_window.Reads as reads
-use Rattle.uc8253.proofs.data_bytes.past_window.Lts as lts
-use Rattle.uc8253.proofs.telling.tell.Reads as tell-reads
-use Rattle.uc8253.proofs.telling.with_current.Reads as with-current-reads
 
--- src/data_bytes.rt:55:9
 with-current-requires : tie.Need-with-current-requires
 with-current-requires c κs = search needs
 
--- src/data_bytes.rt:55:9
 returns : tie.Need-returns
 unfolding pastWindow
 returns c = λ b. let g = c .before .before .before .args in yes _ (c .before .if1 .taken) (changed (under (g .a)) (g .p) (c .with-current .ensures))
 
--- src/data_bytes.rt:59:9
 tell-requires : tie.Need-tell-requires
 tell-requires c κs = search needs
 
--- src/data_bytes.rt:60:5
 with-current-requires-2 : tie.Need-with-current-requires-2
 with-current-requires-2 c κs = search needs
 
--- src/data_bytes.rt:51:1
 same-length : tie.Need-same-length
 same-length c = search needs
 
--- src/data_bytes.rt:51:1
 returns-2 : tie.Need-returns-2
 unfolding pastWindow
 returns-2 c = λ b. no _ (c .before .before .before .before .before .if1 .left) (then (under (pastOf (c .before .before .before .before .before .before .before .args .a))) (c .with-current2 .ensures) (c .before .before .before .tell .ensures b))

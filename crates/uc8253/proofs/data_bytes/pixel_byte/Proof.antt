@@ -1,3 +1,4 @@
+-- `uc8253::data_bytes::pixel_byte` meets its contract, for either plane, by whether the cursor lies past the last row.
 use Rattle.uc8253.proofs.PixelByte.{left-area, moved, older, newer}
 use Rattle.controller.specs.World.{world, withRows, withOld, withNew}
 use Rattle.controller.specs.DataByte.{olderByte, newerByte}
@@ -6,48 +7,32 @@ use Rattle.controller.proofs.Chain.{yes}
 use borrow.Author.Needs.{needs}
 use Rattle.uc8253.proofs.data_bytes.pixel_byte.Statement.{statement}
 use Rattle.uc8253.proofs.data_bytes.pixel_byte.Tie as tie
-use Rattle.uc8253.proofs.data_bytes.pixel_byte.Reads as reads
-use Rattle.uc8253.proofs.data_bytes.pixel_byte.Lts as lts
-use Rattle.ram.proofs.next.Reads as next-reads
-use Rattle.ram.proofs.write.Reads as write-reads
-use Rattle.registers.proofs.Registers.written.Reads as written-reads
-use Rattle.uc8253.proofs.data_bytes.past_window.Reads as past-window-reads
-use Rattle.uc8253.proofs.telling.with_current.Reads as with-current-reads
 
--- src/data_bytes.rt:69:9
 written-requires : tie.Need-written-requires
 written-requires c κs = search needs
 
--- src/data_bytes.rt:71:9
 past-window-requires : tie.Need-past-window-requires
 past-window-requires c κs = search needs
 
--- src/data_bytes.rt:71:9
 same-length : tie.Need-same-length
 same-length c = search needs
 
--- src/data_bytes.rt:71:9
 returns : tie.Need-returns
 unfolding olderByte newerByte
 returns c = let g = c .before .before .before .before .before .before .before .before .before .before .before .args in let h = left-area _ (c .before .before .before .before .before .before .before .written .ensures) (lt-ltb _ _ (c .before .before .before .before .if1 .taken)) in (λ b. yes _ h (c .before .before .past-window .ensures (withOld (g .plane .now) b)), λ b. yes _ h (c .before .before .past-window .ensures (withNew (g .plane .now) b)))
 
--- src/data_bytes.rt:73:5
 write-requires : tie.Need-write-requires
 write-requires c κs = search needs
 
--- src/data_bytes.rt:76:5
 next-requires : tie.Need-next-requires
 next-requires c κs = search needs
 
--- src/data_bytes.rt:77:5
 with-current-requires : tie.Need-with-current-requires
 with-current-requires c κs = search needs
 
--- src/data_bytes.rt:64:1
 same-length-2 : tie.Need-same-length-2
 same-length-2 c = search needs
 
--- src/data_bytes.rt:64:1
 returns-2 : tie.Need-returns-2
 returns-2 c = let g = c .before .before .before .before .before .before .before .before .before .before .before .before .before .before .args in let p = g .p in let a = g .a in let d = g .byte in let e = c .before .before .before .before .before .before .before .before .before .before .written .ensures in let m = moved a p e (c .before .next .ensures) (c .with-current .ensures) in let t = le-ltb _ _ (c .before .before .before .before .before .before .before .if1 .left) in (λ b. older a d (world p (withRows (g .rows .now) (withOld (g .plane .now) b))) e t m (c .before .before .before .before .before .write .ensures), λ b. newer a d (world p (withRows (g .rows .now) (withNew (g .plane .now) b))) e t m (c .before .before .before .before .before .write .ensures))
 

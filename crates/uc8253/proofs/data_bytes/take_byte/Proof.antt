@@ -1,3 +1,4 @@
+-- `uc8253::data_bytes::take_byte` meets its contract, by what the byte is for.
 use Rattle.uc8253.proofs.Changed.{changed, then, in-case, set, put}
 use Rattle.controller.specs.declared.Work.the-variants as work
 use Rattle.controller.specs.Arrives.{starting}
@@ -10,167 +11,118 @@ use mathlib.Core.Path.{sym, ap, _∙_}
 use borrow.Author.Needs.{needs}
 use Rattle.uc8253.proofs.data_bytes.take_byte.Statement.{statement}
 use Rattle.uc8253.proofs.data_bytes.take_byte.Tie as tie
-use Rattle.uc8253.proofs.data_bytes.take_byte.Reads as reads
-use Rattle.uc8253.proofs.data_bytes.take_byte.Lts as lts
-use Rattle.controller.proofs.purpose.Reads as purpose-reads
-use Rattle.uc8253.proofs.data_bytes.more.Reads as more-reads
-use Rattle.uc8253.proofs.data_bytes.pixel_byte.Reads as pixel-byte-reads
-use Rattle.uc8253.proofs.data_bytes.register_byte.Reads as register-byte-reads
-use Rattle.uc8253.proofs.data_bytes.soft_reset.Reads as soft-reset-reads
-use Rattle.uc8253.proofs.data_bytes.softly.Reads as softly-reads
-use Rattle.uc8253.proofs.telling.start.Reads as start-reads
-use Rattle.uc8253.proofs.telling.tell.Reads as tell-reads
-use Rattle.uc8253.proofs.telling.with_current.Reads as with-current-reads
 
--- src/data_bytes.rt:116:9
 more-requires : tie.Need-more-requires
 more-requires c κs = search needs
 
--- src/data_bytes.rt:117:9
 purpose-requires : tie.Need-purpose-requires
 purpose-requires c κs = search needs
 
--- src/data_bytes.rt:120:17
 enum-told : tie.Need-enum-told
 enum-told c = search needs
 
--- src/data_bytes.rt:122:17
 tell-requires : tie.Need-tell-requires
 tell-requires c κs = search needs
 
--- src/data_bytes.rt:123:13
 with-current-requires : tie.Need-with-current-requires
 with-current-requires c κs = search needs
 
--- src/data_bytes.rt:125:39
 enum-told-2 : tie.Need-enum-told-2
 enum-told-2 c = search needs
 
--- src/data_bytes.rt:125:23
 with-current-requires-2 : tie.Need-with-current-requires-2
 with-current-requires-2 c κs = search needs
 
--- src/data_bytes.rt:127:17
 enum-told-3 : tie.Need-enum-told-3
 enum-told-3 c = search needs
 
--- src/data_bytes.rt:127:17
 soft-reset-requires : tie.Need-soft-reset-requires
 soft-reset-requires c κs = search needs
 
--- src/data_bytes.rt:128:45
 softly-requires : tie.Need-softly-requires
 softly-requires c κs = search needs
 
--- src/data_bytes.rt:128:13
 with-current-requires-3 : tie.Need-with-current-requires-3
 with-current-requires-3 c κs = search needs
 
--- src/data_bytes.rt:131:30
 enum-told-4 : tie.Need-enum-told-4
 enum-told-4 c = search needs
 
--- src/data_bytes.rt:131:17
 start-requires : tie.Need-start-requires
 start-requires c κs = search needs
 
--- src/data_bytes.rt:132:13
 with-current-requires-4 : tie.Need-with-current-requires-4
 with-current-requires-4 c κs = search needs
 
--- src/data_bytes.rt:135:29
 enum-told-5 : tie.Need-enum-told-5
 enum-told-5 c = search needs
 
--- src/data_bytes.rt:135:17
 tell-requires-2 : tie.Need-tell-requires-2
 tell-requires-2 c κs = search needs
 
--- src/data_bytes.rt:136:13
 with-current-requires-5 : tie.Need-with-current-requires-5
 with-current-requires-5 c κs = search needs
 
--- src/data_bytes.rt:139:17
 enum-told-6 : tie.Need-enum-told-6
 enum-told-6 c = search needs
 
--- src/data_bytes.rt:139:17
 register-byte-requires : tie.Need-register-byte-requires
 register-byte-requires c κs = search needs
 
--- src/data_bytes.rt:140:13
 with-current-requires-6 : tie.Need-with-current-requires-6
 with-current-requires-6 c κs = search needs
 
--- src/data_bytes.rt:142:46
 enum-told-7 : tie.Need-enum-told-7
 enum-told-7 c = search needs
 
--- src/data_bytes.rt:142:23
 pixel-byte-requires : tie.Need-pixel-byte-requires
 pixel-byte-requires c κs = search needs
 
--- src/data_bytes.rt:143:46
 enum-told-8 : tie.Need-enum-told-8
 enum-told-8 c = search needs
 
--- src/data_bytes.rt:143:23
 pixel-byte-requires-2 : tie.Need-pixel-byte-requires-2
 pixel-byte-requires-2 c κs = search needs
 
--- src/data_bytes.rt:105:1
 same-length : tie.Need-same-length
 same-length c = search needs
 
--- src/data_bytes.rt:105:1
 returns : tie.Need-returns
 returns c = λ states numbers picture. let g = c .before .before .before .before .before .before .before .before .before .before .before .before .args in let w = world (g .p) (buffers (g .old .now) (g .new .now) states numbers picture (g .rows .now)) in in-case (λ (u : Use). usedBy u (g .a) (g .byte) w) (sym (c .before .before .before .before .before .before .before .purpose .ensures) ∙ c .before .before .before .before .before .enum-told .given .1) (then (under (extraOf (moreOf (g .a)))) (set (c .before .before .before .tell .result) (c .with-current .ensures) (ap (λ (x : Active). extraOf x) (c .before .before .before .before .before .before .before .before .more .ensures))) (c .before .before .before .tell .ensures (w .lent)))
 
--- src/data_bytes.rt:105:1
 returns-2 : tie.Need-returns-2
 returns-2 c = λ states numbers picture. let g = c .before .before .before .before .before .before .before .before .args in let w = world (g .p) (buffers (g .old .now) (g .new .now) states numbers picture (g .rows .now)) in in-case (λ (u : Use). usedBy u (g .a) (g .byte) w) (sym (c .before .before .before .purpose .ensures) ∙ c .before .enum-told2 .given .1) (changed (under (moreOf (g .a))) (g .p) (set (g .p) (c .with-current2 .ensures) (c .before .before .before .before .more .ensures)))
 
--- src/data_bytes.rt:105:1
 returns-3 : tie.Need-returns-3
 returns-3 c = λ states numbers picture. let g = c .before .before .before .before .before .before .before .before .before .before .args in let w = world (g .p) (buffers (g .old .now) (g .new .now) states numbers picture (g .rows .now)) in in-case (λ (u : Use). usedBy u (g .a) (g .byte) w) (sym (c .before .before .before .before .before .purpose .ensures) ∙ c .before .before .before .enum-told3 .given .1) (changed (λ (q : Uc8253). under (softOf (moreOf (g .a))) (softReset q)) (g .p) (put (c .with-current3 .ensures) (c .before .softly .ensures ∙ ap (λ (x : Active). softOf x) (c .before .before .before .before .before .before .more .ensures)) (c .before .before .soft-reset .ensures)))
 
--- src/data_bytes.rt:105:1
 returns-4 : tie.Need-returns-4
 returns-4 c = λ states numbers picture. let g = c .before .before .before .before .before .before .before .before .before .args in let w = world (g .p) (buffers (g .old .now) (g .new .now) states numbers picture (g .rows .now)) in in-case (λ (u : Use). usedBy u (g .a) (g .byte) w) (sym (c .before .before .before .before .purpose .ensures) ∙ c .before .before .enum-told4 .given .1) (changed (λ (q : Uc8253). under (moreOf (g .a)) (starting work.DeepSleep (q .config .timing .«deep_sleep») q)) (g .p) (put (c .with-current4 .ensures) (c .before .before .before .before .before .more .ensures) (c .before .start .ensures)))
 
--- src/data_bytes.rt:105:1
 same-length-2 : tie.Need-same-length-2
 same-length-2 c = search needs
 
--- src/data_bytes.rt:105:1
 returns-5 : tie.Need-returns-5
 returns-5 c = λ states numbers picture. let g = c .before .before .before .before .before .before .before .before .before .before .before .before .args in let w = world (g .p) (buffers (g .old .now) (g .new .now) states numbers picture (g .rows .now)) in in-case (λ (u : Use). usedBy u (g .a) (g .byte) w) (sym (c .before .before .before .before .before .before .before .purpose .ensures) ∙ c .before .before .before .before .before .enum-told5 .given .1) (then (under (moreOf (g .a))) (set (c .before .before .before .tell2 .result) (c .with-current5 .ensures) (c .before .before .before .before .before .before .before .before .more .ensures)) (c .before .before .before .tell2 .ensures (w .lent)))
 
--- src/data_bytes.rt:105:1
 returns-6 : tie.Need-returns-6
 returns-6 c = λ states numbers picture. let g = c .before .before .before .before .before .before .before .before .before .args in let w = world (g .p) (buffers (g .old .now) (g .new .now) states numbers picture (g .rows .now)) in in-case (λ (u : Use). usedBy u (g .a) (g .byte) w) (sym (c .before .before .before .before .purpose .ensures) ∙ c .before .before .enum-told6 .given .1) (changed (λ (q : Uc8253). under (moreOf (g .a)) (registerByte (g .a) (g .byte) q)) (g .p) (put (c .with-current6 .ensures) (c .before .before .before .before .before .more .ensures) (c .before .register-byte .ensures)))
 
--- src/data_bytes.rt:105:1
 same-length-3 : tie.Need-same-length-3
 same-length-3 c = search needs
 
--- src/data_bytes.rt:105:1
 same-length-4 : tie.Need-same-length-4
 same-length-4 c = search needs
 
--- src/data_bytes.rt:105:1
 returns-7 : tie.Need-returns-7
 returns-7 c = λ states numbers picture. let g = c .before .before .before .before .before .before .before .before .before .before .before .before .before .before .args in let w = world (g .p) (buffers (g .old .now) (g .new .now) states numbers picture (g .rows .now)) in in-case (λ (u : Use). usedBy u (g .a) (g .byte) w) (sym (c .before .before .before .before .before .before .before .before .before .purpose .ensures) ∙ c .before .before .before .before .before .before .before .enum-told7 .given .1) (c .before .before .before .before .pixel-byte .ensures .0 (w .lent) ∙ ap (λ (x : Active). olderByte x (g .byte) w) (c .before .before .before .before .before .before .before .before .before .before .more .ensures))
 
--- src/data_bytes.rt:105:1
 same-length-5 : tie.Need-same-length-5
 same-length-5 c = search needs
 
--- src/data_bytes.rt:105:1
 same-length-6 : tie.Need-same-length-6
 same-length-6 c = search needs
 
--- src/data_bytes.rt:105:1
 returns-8 : tie.Need-returns-8
 returns-8 c = λ states numbers picture. let g = c .before .before .before .before .before .before .before .before .before .before .before .before .before .before .args in let w = world (g .p) (buffers (g .old .now) (g .new .now) states numbers picture (g .rows .now)) in in-case (λ (u : Use). usedBy u (g .a) (g .byte) w) (sym (c .before .before .before .before .before .before .before .before .before .purpose .ensures) ∙ c .before .before .before .before .before .before .before .enum-told8 .given .1) (c .before .before .before .before .pixel-byte2 .ensures .1 (w .lent) ∙ ap (λ (x : Active). newerByte x (g .byte) w) (c .before .before .before .before .before .before .before .before .before .before .more .ensures))
 

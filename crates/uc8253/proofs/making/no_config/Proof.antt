@@ -1,11 +1,9 @@
+-- `uc8253::making::no_config` meets its contract: both are zeros.
 use Rattle.controller.specs.Calls.{zeros}
 use mathlib.Core.Path.{refl}
 use Rattle.uc8253.proofs.making.no_config.Statement.{statement}
 use Rattle.uc8253.proofs.making.no_config.Tie as tie
-use Rattle.uc8253.proofs.making.no_config.Reads as reads
-use Rattle.uc8253.proofs.making.no_config.Lts as lts
 
--- src/making.rt:107:1
 returns : tie.Need-returns
 unfolding zeros
 returns c = refl

@@ -1,11 +1,9 @@
+-- `uc8253::making::no_waveform` meets its contract: both are zeros.
 use Rattle.controller.specs.Calls.{noWaveform}
 use mathlib.Core.Path.{refl}
 use Rattle.uc8253.proofs.making.no_waveform.Statement.{statement}
 use Rattle.uc8253.proofs.making.no_waveform.Tie as tie
-use Rattle.uc8253.proofs.making.no_waveform.Reads as reads
-use Rattle.uc8253.proofs.making.no_waveform.Lts as lts
 
--- src/making.rt:37:1
 returns : tie.Need-returns
 unfolding noWaveform
 returns c = refl

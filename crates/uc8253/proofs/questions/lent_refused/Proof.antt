@@ -1,28 +1,22 @@
+-- `uc8253::questions::lent_refused` meets its contract, by 6, then 5.
 use Rattle.controller.proofs.Chain.{yes, no}
 use mathlib.Core.Path.{refl, sym, _∙_}
 use Rattle.controller.specs.TurnedBack.{lentRefused}
 use borrow.Author.Needs.{needs}
 use Rattle.uc8253.proofs.questions.lent_refused.Statement.{statement}
 use Rattle.uc8253.proofs.questions.lent_refused.Tie as tie
-use Rattle.uc8253.proofs.questions.lent_refused.Reads as reads
-use Rattle.uc8253.proofs.questions.lent_refused.Lts as lts
-use Rattle.controller.proofs.foreign.Reads as foreign-reads
 
--- src/questions.rt:48:8
 foreign-requires : tie.Need-foreign-requires
 foreign-requires c κs = search needs
 
--- src/questions.rt:49:9
 returns : tie.Need-returns
 unfolding lentRefused
 returns c = yes _ (sym (c .before .foreign .ensures) ∙ c .if1 .taken) refl
 
--- src/questions.rt:52:9
 returns-2 : tie.Need-returns-2
 unfolding lentRefused
 returns-2 c = no _ (sym (c .before .before .foreign .ensures) ∙ c .before .if1 .left) (yes _ (c .if2 .taken) refl)
 
--- src/questions.rt:45:1
 returns-3 : tie.Need-returns-3
 unfolding lentRefused
 returns-3 c = no _ (sym (c .before .before .foreign .ensures) ∙ c .before .if1 .left) (no _ (c .if2 .left) refl)

@@ -1,3 +1,4 @@
+-- `uc8253::questions::next_deadline` meets its contract, by refusal 6.
 use Rattle.controller.proofs.Chain.{yes, no}
 use mathlib.Core.Path.{refl, sym, _∙_}
 use Rattle.controller.specs.Calls.{questionRefused, deadlineAnswer}
@@ -5,25 +6,17 @@ use Rattle.controller.specs.TurnedBack.{lentRefused}
 use borrow.Author.Needs.{needs}
 use Rattle.uc8253.proofs.questions.next_deadline.Statement.{statement}
 use Rattle.uc8253.proofs.questions.next_deadline.Tie as tie
-use Rattle.uc8253.proofs.questions.next_deadline.Reads as reads
-use Rattle.uc8253.proofs.questions.next_deadline.Lts as lts
-use Rattle.controller.proofs.foreign.Reads as foreign-reads
-use Rattle.uc8253.proofs.questions.due_of.Reads as due-of-reads
 
--- src/questions.rt:116:8
 foreign-requires : tie.Need-foreign-requires
 foreign-requires c κs = search needs
 
--- src/questions.rt:117:9
 returns : tie.Need-returns
 unfolding lentRefused questionRefused deadlineAnswer
 returns c = (yes _ (sym (c .before .foreign .ensures) ∙ c .if1 .taken) refl, yes _ (sym (c .before .foreign .ensures) ∙ c .if1 .taken) refl)
 
--- src/questions.rt:124:9
 due-of-requires : tie.Need-due-of-requires
 due-of-requires c κs = search needs
 
--- src/questions.rt:113:1
 returns-2 : tie.Need-returns-2
 unfolding lentRefused questionRefused deadlineAnswer
 returns-2 c = (no _ (sym (c .before .before .before .foreign .ensures) ∙ c .before .before .if1 .left) refl, no _ (sym (c .before .before .before .foreign .ensures) ∙ c .before .before .if1 .left) (c .due-of .ensures))

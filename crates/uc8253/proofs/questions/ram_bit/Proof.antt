@@ -1,3 +1,4 @@
+-- `uc8253::questions::ram_bit` meets its contract, by its refusal.
 use Rattle.uc8253.proofs.Refusals.{none, some}
 use Rattle.controller.proofs.Chain.{yes, no}
 use mathlib.Core.Path.{refl, sym, _∙_}
@@ -5,25 +6,17 @@ use Rattle.controller.specs.Calls.{bitRefused, bitAnswer}
 use borrow.Author.Needs.{needs}
 use Rattle.uc8253.proofs.questions.ram_bit.Statement.{statement}
 use Rattle.uc8253.proofs.questions.ram_bit.Tie as tie
-use Rattle.uc8253.proofs.questions.ram_bit.Reads as reads
-use Rattle.uc8253.proofs.questions.ram_bit.Lts as lts
-use Rattle.ram.proofs.ram_bit.Reads as ram-bit-reads
-use Rattle.uc8253.proofs.questions.lent_refused.Reads as lent-refused-reads
 
--- src/questions.rt:132:9
 lent-refused-requires : tie.Need-lent-refused-requires
 lent-refused-requires c κs = search needs
 
--- src/questions.rt:134:9
 returns : tie.Need-returns
 unfolding bitRefused bitAnswer
 returns c = (c .before .lent-refused .ensures, no _ (some (c .before .lent-refused .ensures) (c .if1 .taken)) refl)
 
--- src/questions.rt:139:9
 ram-bit-requires : tie.Need-ram-bit-requires
 ram-bit-requires c κs = search needs
 
--- src/questions.rt:129:1
 returns-2 : tie.Need-returns-2
 unfolding bitRefused bitAnswer
 returns-2 c = (sym (c .before .if1 .left) ∙ c .before .before .lent-refused .ensures, yes _ (none (c .before .before .lent-refused .ensures) (c .before .if1 .left)) (c .ram-bit .ensures))

@@ -1,3 +1,4 @@
+-- `uc8253::questions::row` meets its contract: the row lies in the picture, since the question was not refused.
 use Rattle.uc8253.proofs.Refusals.{none, some, small, row-fits, row-length}
 use Rattle.controller.proofs.Chain.{yes, no}
 use mathlib.Core.Path.{refl, sym, _∙_}
@@ -8,73 +9,54 @@ use Rattle.controller.specs.Calls.{rowAnswer}
 use borrow.Author.Needs.{needs}
 use Rattle.uc8253.proofs.questions.row.Statement.{statement}
 use Rattle.uc8253.proofs.questions.row.Tie as tie
-use Rattle.uc8253.proofs.questions.row.Reads as reads
-use Rattle.uc8253.proofs.questions.row.Lts as lts
-use Rattle.uc8253.proofs.questions.row_refused.Reads as row-refused-reads
 
--- src/questions.rt:156:8
 row-refused-requires : tie.Need-row-refused-requires
 row-refused-requires c κs = search needs
 
--- src/questions.rt:157:16
 sub-result : tie.Need-sub-result
 sub-result c = search needs
 
--- src/questions.rt:157:16
 part-result-start : tie.Need-part-result-start
 part-result-start c = search needs
 
--- src/questions.rt:157:16
 part-result-end : tie.Need-part-result-end
 part-result-end c = search needs
 
--- src/questions.rt:157:9
 returns : tie.Need-returns
 unfolding rowAnswer
 returns c = no _ (some (c .before .before .row-refused .ensures) (c .before .if1 .taken)) refl
 
--- src/questions.rt:160:16
 sub-result-2 : tie.Need-sub-result-2
 sub-result-2 c = search needs
 
--- src/questions.rt:160:16
 part-result-start-2 : tie.Need-part-result-start-2
 part-result-start-2 c = search needs
 
--- src/questions.rt:160:16
 part-result-end-2 : tie.Need-part-result-end-2
 part-result-end-2 c = search needs
 
--- src/questions.rt:160:9
 returns-2 : tie.Need-returns-2
 unfolding rowAnswer
 returns-2 c = yes _ (none (c .before .before .before .before .row-refused .ensures) (c .before .before .before .if1 .left)) (no _ (le-ltb _ _ (c .before .if2 .taken)) refl)
 
--- src/questions.rt:162:17
 cast-width : tie.Need-cast-width
 cast-width c = search needs
 
--- src/questions.rt:163:14
 mul-at : tie.Need-mul-at
 mul-at c = record { fits = omega (arith, small (c .before .before .before .before .before .before .args .y) (c .before .before .before .before .before .before .args .p .config .panel .sources) (search needs) (search needs)) }
 
--- src/questions.rt:164:18
 add-result : tie.Need-add-result
 add-result c = record { fits = omega (arith, small (c .before .before .before .before .before .before .args .y) (c .before .before .before .before .before .before .args .p .config .panel .sources) (search needs) (search needs)) }
 
--- src/questions.rt:164:5
 sub-result-3 : tie.Need-sub-result-3
 sub-result-3 c = search needs
 
--- src/questions.rt:164:5
 part-result-start-3 : tie.Need-part-result-start-3
 part-result-start-3 c = search needs
 
--- src/questions.rt:164:5
 part-result-end-3 : tie.Need-part-result-end-3
 part-result-end-3 c = omega (arith, row-fits (c .before .before .before .before .before .before .args .p .config .panel .sources) (c .before .before .before .before .before .before .args .p .config .panel .gates) (c .before .before .before .before .before .before .args .y) (c .before .if2 .left), row-length (c .before .before .before .before .before .before .args .p) _ (sym (c .before .before .before .before .row-refused .ensures) ∙ c .before .before .before .if1 .left))
 
--- src/questions.rt:153:1
 returns-3 : tie.Need-returns-3
 unfolding rowAnswer
 returns-3 c = yes _ (none (c .before .before .before .before .before .row-refused .ensures) (c .before .before .before .before .if1 .left)) (yes _ (lt-ltb _ _ (c .before .before .if2 .left)) (simp add-sub-cancel-left))

@@ -1,36 +1,27 @@
+-- `uc8253::reading::missed` meets its contract, by whether a byte was driven.
 use borrow.Author.Tests.{eq-eqb, ne-eqb}
 use borrow.Author.Needs.{needs}
 use Rattle.uc8253.proofs.reading.missed.Statement.{statement}
 use Rattle.uc8253.proofs.reading.missed.Tie as tie
-use Rattle.uc8253.proofs.reading.missed.Reads as reads
-use Rattle.uc8253.proofs.reading.missed.Lts as lts
-use Rattle.uc8253.proofs.telling.tell.Reads as tell-reads
 
--- src/reading.rt:27:26
 enum-told : tie.Need-enum-told
 enum-told c = search needs
 
--- src/reading.rt:29:16
 enum-told-2 : tie.Need-enum-told-2
 enum-told-2 c = search needs
 
--- src/reading.rt:30:17
 tell-requires : tie.Need-tell-requires
 tell-requires c κs = search needs
 
--- src/reading.rt:30:17
 same-length : tie.Need-same-length
 same-length c = search needs
 
--- src/reading.rt:30:17
 returns : tie.Need-returns
 returns c = λ b. simp (c .before .before .before .before .before .before .enum-told2 .given .1, eq-eqb _ _ (c .before .before .before .before .if1 .taken)) (c .before .before .tell .ensures b)
 
--- src/reading.rt:23:1
 returns-2 : tie.Need-returns-2
 returns-2 c = λ b. simp (c .enum-told .given .1)
 
--- src/reading.rt:23:1
 returns-3 : tie.Need-returns-3
 returns-3 c = λ b. simp (c .before .before .enum-told2 .given .1, ne-eqb _ _ (c .if1 .left))
 

@@ -1,3 +1,4 @@
+-- `uc8253::reading::read_byte` meets its contract, by the command under way.
 use Rattle.uc8253.proofs.Changed.{in-case}
 use Rattle.controller.specs.declared.Current.{Current}
 use Rattle.controller.specs.Reading.{reading, readingBy, readOf, readFrom}
@@ -5,41 +6,30 @@ use Rattle.controller.specs.World.{world, withRows}
 use borrow.Author.Needs.{needs}
 use Rattle.uc8253.proofs.reading.read_byte.Statement.{statement}
 use Rattle.uc8253.proofs.reading.read_byte.Tie as tie
-use Rattle.uc8253.proofs.reading.read_byte.Reads as reads
-use Rattle.uc8253.proofs.reading.read_byte.Lts as lts
-use Rattle.uc8253.proofs.reading.read_under.Reads as read-under-reads
 
--- src/reading.rt:78:25
 enum-known-current : tie.Need-enum-known-current
 enum-known-current c = search needs
 
--- src/reading.rt:78:36
 read-under-requires : tie.Need-read-under-requires
 read-under-requires c κs = search needs
 
--- src/reading.rt:81:19
 enum-told : tie.Need-enum-told
 enum-told c = search needs
 
--- src/reading.rt:85:19
 enum-told-2 : tie.Need-enum-told-2
 enum-told-2 c = search needs
 
--- src/reading.rt:72:1
 same-length : tie.Need-same-length
 same-length c = search needs
 
--- src/reading.rt:72:1
 returns : tie.Need-returns
 unfolding reading readOf
 returns c = let g = c .before .before .before .before .before .before .before .before .before .args in (λ b. let w = world (g .p) (withRows (g .rows .now) b) in in-case (λ (x : Current). readingBy x w) (c .before .before .before .before .before .current .given .1) (c .before .before .read-under .ensures .0 b), in-case (λ (x : Current). readFrom x (g .p)) (c .before .before .before .before .before .current .given .1) (c .before .before .read-under .ensures .1))
 
--- src/reading.rt:72:1
 returns-2 : tie.Need-returns-2
 unfolding reading readOf
 returns-2 c = (λ b. simp (c .enum-told .given .1), simp (c .enum-told .given .1))
 
--- src/reading.rt:72:1
 returns-3 : tie.Need-returns-3
 unfolding reading readOf
 returns-3 c = (λ b. simp (c .enum-told2 .given .1), simp (c .enum-told2 .given .1))

@@ -1,38 +1,28 @@
+-- `uc8253::refreshes::drive_first` meets its contract: transfers over the first frames act as those frames.
 use Rattle.uc8253.proofs.Walked.{driven-walked}
 use mathlib.Core.Path.{_∙_}
 use borrow.Author.Needs.{needs}
 use Rattle.uc8253.proofs.refreshes.drive_first.Statement.{statement}
 use Rattle.uc8253.proofs.refreshes.drive_first.Tie as tie
-use Rattle.uc8253.proofs.refreshes.drive_first.Reads as reads
-use Rattle.uc8253.proofs.refreshes.drive_first.Lts as lts
-use Rattle.pixels.proofs.drive.Reads as drive-reads
-use Rattle.waveform.proofs.Waveform.transfer_first.Reads as transfer-first-reads
 
--- src/refreshes.rt:107:9
 transfer-first-requires : tie.Need-transfer-first-requires
 transfer-first-requires c κs = search needs
 
--- src/refreshes.rt:108:9
 transfer-first-requires-2 : tie.Need-transfer-first-requires-2
 transfer-first-requires-2 c κs = search needs
 
--- src/refreshes.rt:109:9
 transfer-first-requires-3 : tie.Need-transfer-first-requires-3
 transfer-first-requires-3 c κs = search needs
 
--- src/refreshes.rt:110:9
 transfer-first-requires-4 : tie.Need-transfer-first-requires-4
 transfer-first-requires-4 c κs = search needs
 
--- src/refreshes.rt:111:5
 drive-requires : tie.Need-drive-requires
 drive-requires c κs = search needs
 
--- src/refreshes.rt:101:1
 same-length : tie.Need-same-length
 same-length c = search needs
 
--- src/refreshes.rt:101:1
 returns : tie.Need-returns
 returns c = c .before .drive .ensures ∙ driven-walked _ _ _ _ _ _ (c .before .before .before .before .before .before .before .before .pre .0) (c .before .before .before .before .before .before .transfer-first .ensures) (c .before .before .before .before .before .transfer-first2 .ensures) (c .before .before .before .before .transfer-first3 .ensures) (c .before .before .before .transfer-first4 .ensures) _ _ (c .before .before .before .before .before .before .before .before .pre .1)
 

@@ -1,43 +1,30 @@
+-- `uc8253::refreshes::finish_whole` meets its contract, part by part.
 use Rattle.uc8253.proofs.Refreshed.{ended-parts}
 use borrow.Author.Needs.{needs}
 use Rattle.uc8253.proofs.refreshes.finish_whole.Statement.{statement}
 use Rattle.uc8253.proofs.refreshes.finish_whole.Tie as tie
-use Rattle.uc8253.proofs.refreshes.finish_whole.Reads as reads
-use Rattle.uc8253.proofs.refreshes.finish_whole.Lts as lts
-use Rattle.pixels.proofs.draw.Reads as draw-reads
-use Rattle.uc8253.proofs.refreshes.copy_after.Reads as copy-after-reads
-use Rattle.uc8253.proofs.refreshes.drive_whole.Reads as drive-whole-reads
-use Rattle.uc8253.proofs.refreshes.publish.Reads as publish-reads
 
--- src/refreshes.rt:160:5
 drive-whole-requires : tie.Need-drive-whole-requires
 drive-whole-requires c κs = search needs
 
--- src/refreshes.rt:161:5
 draw-requires : tie.Need-draw-requires
 draw-requires c κs = search needs
 
--- src/refreshes.rt:164:5
 copy-after-requires : tie.Need-copy-after-requires
 copy-after-requires c κs = search needs
 
--- src/refreshes.rt:165:5
 publish-requires : tie.Need-publish-requires
 publish-requires c κs = search needs
 
--- src/refreshes.rt:144:1
 same-length : tie.Need-same-length
 same-length c = search needs
 
--- src/refreshes.rt:144:1
 same-length-2 : tie.Need-same-length-2
 same-length-2 c = search (needs, c .before .before .before .before .before .before .before .before .before .before .before .states .given, c .before .before .before .before .before .before .before .before .before .before .before .before .drive-whole .ok)
 
--- src/refreshes.rt:144:1
 same-length-3 : tie.Need-same-length-3
 same-length-3 c = search needs
 
--- src/refreshes.rt:144:1
 returns : tie.Need-returns
 returns c = λ rows. ended-parts _ _ _ _ _ _ _ _ rows _ _ _ (c .before .before .before .before .before .before .before .before .before .before .before .before .drive-whole .ensures) (c .before .before .before .before .before .before .before .before .draw .ensures) (c .before .before .before .copy-after .ensures) (c .publish .ensures)
 

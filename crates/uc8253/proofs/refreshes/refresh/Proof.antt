@@ -1,3 +1,4 @@
+-- `uc8253::refreshes::refresh` meets its contract, by what refuses it.
 use mathlib.Core.List.{[]}
 use Rattle.uc8253.proofs.ByCase.{by-note}
 use Rattle.controller.specs.Refresh.{refreshed}
@@ -6,50 +7,35 @@ use mathlib.Core.Path.{sym, _∙_}
 use borrow.Author.Needs.{needs}
 use Rattle.uc8253.proofs.refreshes.refresh.Statement.{statement}
 use Rattle.uc8253.proofs.refreshes.refresh.Tie as tie
-use Rattle.uc8253.proofs.refreshes.refresh.Reads as reads
-use Rattle.uc8253.proofs.refreshes.refresh.Lts as lts
-use Rattle.controller.proofs.refresh_note.Reads as refresh-note-reads
-use Rattle.uc8253.proofs.refreshes.start_refresh.Reads as start-refresh-reads
-use Rattle.uc8253.proofs.telling.tell.Reads as tell-reads
 
--- src/refreshes.rt:101:29
 array-read-refresh-note : tie.Need-array-read-refresh-note
 array-read-refresh-note c = search needs
 
--- src/refreshes.rt:101:9
 refresh-note-requires : tie.Need-refresh-note-requires
 refresh-note-requires c κs = search needs
 
--- src/refreshes.rt:103:51
 enum-told : tie.Need-enum-told
 enum-told c = search needs
 
--- src/refreshes.rt:103:24
 start-refresh-requires : tie.Need-start-refresh-requires
 start-refresh-requires c κs = search needs
 
--- src/refreshes.rt:104:20
 enum-known-note : tie.Need-enum-known-note
 enum-known-note c = search needs
 
--- src/refreshes.rt:104:29
 tell-requires : tie.Need-tell-requires
 tell-requires c κs = search needs
 
--- src/refreshes.rt:89:1
 same-length : tie.Need-same-length
 same-length c = search needs
 
--- src/refreshes.rt:89:1
 returns : tie.Need-returns
 unfolding refreshed
 returns c = λ states picture. by-note _ _ _ _ (sym (c .before .before .before .before .before .before .refresh-note .ensures) ∙ c .before .before .before .before .enum-told .given .1) (c .before .before .start-refresh .ensures states picture _)
 
--- src/refreshes.rt:89:1
 same-length-2 : tie.Need-same-length-2
 same-length-2 c = search needs
 
--- src/refreshes.rt:89:1
 returns-2 : tie.Need-returns-2
 unfolding refreshed
 returns-2 c = λ states picture. by-note _ _ _ _ (sym (c .before .before .before .before .before .before .before .refresh-note .ensures) ∙ c .before .before .before .before .before .note .given .1) (c .before .before .tell .ensures (buffers _ _ states _ picture []))

@@ -1,83 +1,62 @@
+-- `uc8253::resets::reset_edge` meets its contract, by the line and the edge.
 use Rattle.controller.specs.declared.Power.the-variants as power
 use Rattle.uc8253.proofs.ByCase.{by-fall, by-rise, record-of, cut-by}
 use mathlib.Core.Path.{refl}
 use borrow.Author.Needs.{needs}
 use Rattle.uc8253.proofs.resets.reset_edge.Statement.{statement}
 use Rattle.uc8253.proofs.resets.reset_edge.Tie as tie
-use Rattle.uc8253.proofs.resets.reset_edge.Reads as reads
-use Rattle.uc8253.proofs.resets.reset_edge.Lts as lts
-use Rattle.uc8253.proofs.resets.fall.Reads as fall-reads
-use Rattle.uc8253.proofs.resets.rise.Reads as rise-reads
 
--- src/resets.rt:130:16
 enum-told : tie.Need-enum-told
 enum-told c = search needs
 
--- src/resets.rt:131:17
 fall-requires : tie.Need-fall-requires
 fall-requires c κs = (c .before .before .before .before .before .before .before .before .before .before .pre .0, λ h. c .before .before .before .before .before .before .before .before .before .before .pre .1 h (cut-by _ _ power.Running (c .before .before .before .before .enum-told .given .1) (c .before .before .before .if1 .taken) refl))
 
--- src/resets.rt:131:17
 same-length : tie.Need-same-length
 same-length c = search needs
 
--- src/resets.rt:131:17
 same-length-2 : tie.Need-same-length-2
 same-length-2 c = search needs
 
--- src/resets.rt:131:17
 same-length-3 : tie.Need-same-length-3
 same-length-3 c = search needs
 
--- src/resets.rt:131:17
 returns : tie.Need-returns
 returns c = λ old new. by-fall _ _ _ _ (c .before .before .before .before .before .before .before .before .before .if1 .taken) (c .before .before .before .before .before .before .before .before .before .before .enum-told .given .1) (c .before .before .before .before .before .fall .ensures old new)
 
--- src/resets.rt:136:16
 enum-told-2 : tie.Need-enum-told-2
 enum-told-2 c = search needs
 
--- src/resets.rt:137:17
 fall-requires-2 : tie.Need-fall-requires-2
 fall-requires-2 c κs = (c .before .before .before .before .before .before .before .before .before .before .pre .0, λ h. c .before .before .before .before .before .before .before .before .before .before .pre .1 h (cut-by _ _ power.Asleep (c .before .before .before .before .enum-told2 .given .1) (c .before .before .before .if2 .taken) refl))
 
--- src/resets.rt:137:17
 same-length-4 : tie.Need-same-length-4
 same-length-4 c = search needs
 
--- src/resets.rt:137:17
 same-length-5 : tie.Need-same-length-5
 same-length-5 c = search needs
 
--- src/resets.rt:137:17
 same-length-6 : tie.Need-same-length-6
 same-length-6 c = search needs
 
--- src/resets.rt:137:17
 returns-2 : tie.Need-returns-2
 returns-2 c = λ old new. by-fall _ _ _ _ (c .before .before .before .before .before .before .before .before .before .if2 .taken) (c .before .before .before .before .before .before .before .before .before .before .enum-told2 .given .1) (c .before .before .before .before .before .fall2 .ensures old new)
 
--- src/resets.rt:142:16
 enum-told-3 : tie.Need-enum-told-3
 enum-told-3 c = search needs
 
--- src/resets.rt:143:17
 returns-3 : tie.Need-returns-3
 returns-3 c = λ old new. by-fall _ _ _ _ (c .if3 .taken) (c .before .enum-told3 .given .1) refl
 
--- src/resets.rt:145:13
 rise-requires : tie.Need-rise-requires
 rise-requires c κs = search needs
 
--- src/resets.rt:114:1
 returns-4 : tie.Need-returns-4
 returns-4 c = λ old new. by-rise _ _ _ _ (c .if1 .left) (c .before .enum-told .given .1) refl
 
--- src/resets.rt:114:1
 returns-5 : tie.Need-returns-5
 returns-5 c = λ old new. by-rise _ _ _ _ (c .if2 .left) (c .before .enum-told2 .given .1) refl
 
--- src/resets.rt:114:1
 returns-6 : tie.Need-returns-6
 returns-6 c = λ old new. by-rise _ _ _ _ (c .before .if3 .left) (c .before .before .enum-told3 .given .1) (record-of _ (c .rise .ensures))
 
