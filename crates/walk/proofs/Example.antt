@@ -1,7 +1,7 @@
 -- A list that runs, computed by the checker: a refresh ends by itself, a call is turned back, a refresh is cut by reset after two whole frames.
 use mathlib.Core.Path.{_≡_, refl, ap, _∙_}
 use mathlib.Core.Bool.{Bool, true, false}
-use mathlib.Core.List.{List, [], _∷_}
+use mathlib.Core.List.{List, [], _∷_, _++_}
 use Prim.Native.Nat.{ℕ, _*_, _<_}
 use lib.Dec.{lit<, lit≤}
 use lib.IntN.{pos}
@@ -39,15 +39,18 @@ unfoldable all : ℕ
 unfolding kindOf inside bytes.tenBits bytes.windowSet bytes.heldArea bytes.putAt bytes.byteOf luts.resetLuts luts.keptByte luts.lutByteOf resetOf activeOf writtenOf withBit bitAt putBit putInside written nextOf copied levelOfCode floats tables.ends driveOf number.pixelsOf number.shownAt number.tableOf number.numberOf m.framesOn m.settled m.dropped m.noted m.able m.refresh m.acted m.commanded m.softened m.streamed m.stored m.took m.given m.cleared m.lowered m.raised m.stepped m.framesAt m.fresh m.fed1 m.framesFed1 m.ran m.framesFed
 all = 0
 
--- one pixel, every period 10 ns, power on after 100 ns
-unfoldable tiny : Uc8253Config
-tiny = record {
+-- one pixel, every period the same, power on after 100 ns
+abbrev onePixel : ℕ → Uc8253Config
+onePixel period = record {
   variant = variant.Uc8253;
   panel = record { sources = 1; gates = 1; «rows_reversed» = false; «columns_reversed» = false };
   optics = record { «full_swing» = 1_000_000; «positive_drives_black» = true; «initial_gray» = 0 };
-  timing = record { «power_on» = 100; «power_off» = 0; «deep_sleep» = 0; «soft_reset» = 0; «hardware_reset» = 5; «frame_period» = replicate 32 10 };
+  timing = record { «power_on» = 100; «power_off» = 0; «deep_sleep» = 0; «soft_reset» = 0; «hardware_reset» = 5; «frame_period» = replicate 32 period };
   «ambient_celsius» = 25;
 }
+
+unfoldable tiny : Uc8253Config
+tiny = onePixel 10
 
 abbrev ok : Ask → Fed
 ok a = record { ask = a; back = false }
@@ -74,6 +77,20 @@ frames = refl
 whole : framesFed tiny (fresh tiny) (take 16 story) 0 ≡ replicate 3 (pos 140_000)
 unfolding all tiny story
 whole = refl
+
+-- ---- with frames of 1,000: the refresh of three that the table of acceptance cuts
+unfoldable slow : Uc8253Config
+slow = onePixel 1_000
+
+-- 12 at 100; reset after 2,999 leaves two of the three
+driven : framesFed slow (fresh slow) (take 13 story ++ ok (reset 3_099 true) ∷ []) 0 ≡ replicate 2 (pos 14_000_000)
+unfolding all slow story
+driven = refl
+
+-- a reset at its end, (3 + 2) × 1,000 after its start, cuts none
+uncut : framesFed slow (fresh slow) (take 13 story ++ ok (reset 5_100 true) ∷ []) 0 ≡ replicate 3 (pos 14_000_000)
+unfolding all slow story
+uncut = refl
 
 -- ---- the same on the controller
 unfoldable bench : Buffers

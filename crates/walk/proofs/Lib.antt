@@ -11,3 +11,4 @@ pub mod Pixel
 pub mod Lending
 pub mod Demand
 pub mod Example
+pub mod Acceptance
