@@ -1,4 +1,7 @@
 -- `uc8253::advance` meets its contract: turned back, or arrived.
+use mathlib.Core.Bool.{false}
+use Rattle.controller.specs.World.{World, world, buffers}
+-- `uc8253::advance` meets its contract: turned back, or arrived.
 use Rattle.uc8253.proofs.Called.{called-no, called-yes, ready-arrive}
 use mathlib.Core.Path.{sym, _∙_}
 use borrow.Author.Needs.{needs}
@@ -27,10 +30,10 @@ same-length-6 : tie.Need-same-length-6
 same-length-6 c = search needs
 
 returns : tie.Need-returns
-returns c = (called-no _ _ _ _ (c .before .turned-back .ensures) _ (c .if1 .taken), c .before .turned-back .ensures)
+returns c = let g = c .before .before .before .before .before .before .before .before .before .before .before .before .before .args in let w : World = world (g .p) (buffers (g .old .now) (g .new .now) (g .states .now) (g .numbers .now) (g .picture .now) (g .rows .now)) in let e = c .before .turned-back .ensures in (called-no false (g .at) w _ e (λ v. v) (c .if1 .taken), e)
 
 arrive-requires : tie.Need-arrive-requires
-arrive-requires c κs = ready-arrive _ _ _ (sym (c .before .before .before .before .before .before .turned-back .ensures) ∙ c .before .before .before .before .before .if1 .left)
+arrive-requires c κs = let g = c .before .before .before .before .before .before .before .before .before .before .before .before .before .before .before .before .before .before .args in let w : World = world (g .p) (buffers (g .old .now) (g .new .now) (g .states .now) (g .numbers .now) (g .picture .now) (g .rows .now)) in ready-arrive false (g .at) w (sym (c .before .before .before .before .before .before .turned-back .ensures) ∙ c .before .before .before .before .before .if1 .left)
 
 same-length-7 : tie.Need-same-length-7
 same-length-7 c = search needs
@@ -51,7 +54,7 @@ same-length-12 : tie.Need-same-length-12
 same-length-12 c = search needs
 
 returns-2 : tie.Need-returns-2
-returns-2 c = (called-yes _ _ _ _ (c .before .before .before .before .before .before .before .before .before .before .before .before .turned-back .ensures) _ _ (c .before .before .before .before .before .before .before .before .before .before .before .if1 .left) (c .before .before .before .before .before .arrive .ensures (c .before .before .before .before .before .before .before .before .before .before .before .before .before .before .before .before .before .before .before .before .before .before .before .before .args .rows .now)), sym (c .before .before .before .before .before .before .before .before .before .before .before .if1 .left) ∙ c .before .before .before .before .before .before .before .before .before .before .before .before .turned-back .ensures)
+returns-2 c = let g = c .before .before .before .before .before .before .before .before .before .before .before .before .before .before .before .before .before .before .before .before .before .before .before .before .args in let w : World = world (g .p) (buffers (g .old .now) (g .new .now) (g .states .now) (g .numbers .now) (g .picture .now) (g .rows .now)) in let e = c .before .before .before .before .before .before .before .before .before .before .before .before .turned-back .ensures in let z = c .before .before .before .before .before .before .before .before .before .before .before .if1 .left in (called-yes false (g .at) w _ e (λ v. v) _ z (c .before .before .before .before .before .arrive .ensures (g .rows .now)), sym z ∙ e)
 
 pub advance-spec : {M : Type 1} → statement M
 advance-spec =

@@ -1,4 +1,7 @@
 -- `uc8253::set_reset` meets its contract: turned back, or the edge at its time.
+use Rattle.controller.specs.Reset.{resetEdge}
+use Rattle.controller.specs.World.{World, world, buffers}
+-- `uc8253::set_reset` meets its contract: turned back, or the edge at its time.
 use Rattle.uc8253.proofs.Called.{called-no, called-yes}
 use mathlib.Core.Path.{sym, _∙_}
 use borrow.Author.Needs.{needs}
@@ -27,7 +30,7 @@ same-length-6 : tie.Need-same-length-6
 same-length-6 c = search needs
 
 returns : tie.Need-returns
-returns c = (called-no _ _ _ _ (c .before .turned-back .ensures) _ (c .if1 .taken), c .before .turned-back .ensures)
+returns c = let g = c .before .before .before .before .before .before .before .before .before .before .before .before .before .args in let w : World = world (g .p) (buffers (g .old .now) (g .new .now) (g .states .now) (g .numbers .now) (g .picture .now) (g .rows .now)) in let e = c .before .turned-back .ensures in (called-no (g .asserted) (g .at) w _ e (resetEdge (g .asserted)) (c .if1 .taken), e)
 
 reset-at-requires : tie.Need-reset-at-requires
 reset-at-requires c κs = sym (c .before .before .before .before .before .before .before .turned-back .ensures) ∙ c .before .before .before .before .before .before .if1 .left
@@ -51,7 +54,7 @@ same-length-12 : tie.Need-same-length-12
 same-length-12 c = search needs
 
 returns-2 : tie.Need-returns-2
-returns-2 c = (called-yes _ _ _ _ (c .before .before .before .before .before .before .before .before .before .before .before .before .before .before .before .turned-back .ensures) _ _ (c .before .before .before .before .before .before .before .before .before .before .before .before .before .before .if1 .left) (c .before .before .before .before .before .before .before .reset-at .ensures), sym (c .before .before .before .before .before .before .before .before .before .before .before .before .before .before .if1 .left) ∙ c .before .before .before .before .before .before .before .before .before .before .before .before .before .before .before .turned-back .ensures)
+returns-2 c = let g = c .before .before .before .before .before .before .before .before .before .before .before .before .before .before .before .before .before .before .before .before .before .before .before .before .before .before .before .args in let w : World = world (g .p) (buffers (g .old .now) (g .new .now) (g .states .now) (g .numbers .now) (g .picture .now) (g .rows .now)) in let e = c .before .before .before .before .before .before .before .before .before .before .before .before .before .before .before .turned-back .ensures in let z = c .before .before .before .before .before .before .before .before .before .before .before .before .before .before .if1 .left in (called-yes (g .asserted) (g .at) w _ e (resetEdge (g .asserted)) _ z (c .before .before .before .before .before .before .before .reset-at .ensures), sym z ∙ e)
 
 pub set-reset-spec : {M : Type 1} → statement M
 set-reset-spec =

@@ -1,8 +1,10 @@
 -- `uc8253::arriving::end` meets its contract, by what runs.
+use Rattle.controller.specs.declared.Work.the-variants as work
+use Rattle.controller.specs.World.{World, world, buffers, onChip, withOperation}
+-- `uc8253::arriving::end` meets its contract, by what runs.
 use Rattle.uc8253.proofs.ByCase.{by-work, record-of}
 use Rattle.controller.specs.TurnedBack.{refreshRuns}
 use Rattle.controller.specs.Arrives.{rest}
-use Rattle.controller.specs.World.{World, onChip, withOperation}
 use mathlib.Core.Path.{refl, ap, _∙_}
 use borrow.Author.Needs.{needs}
 use Rattle.uc8253.proofs.arriving.end.Statement.{statement}
@@ -51,22 +53,22 @@ rested-requires-3 : tie.Need-rested-requires-3
 rested-requires-3 c κs = search needs
 
 returns : tie.Need-returns
-returns c = λ rows. by-work _ _ _ (c .enum-told .given .1) refl
+returns c = λ rows. let g = c .before .before .before .before .before .before .before .args in let w : World = world (g .p) (buffers (g .old .now) (g .new .now) (g .states .now) (g .numbers .now) (g .picture .now) rows) in by-work work.Nothing w w (c .enum-told .given .1) refl
 
 returns-2 : tie.Need-returns-2
-returns-2 c = λ rows. by-work _ _ _ (c .before .enum-told2 .given .1) (record-of _ (c .powered .ensures))
+returns-2 c = λ rows. let g = c .before .before .before .before .before .before .before .before .args in let w : World = world (g .p) (buffers (g .old .now) (g .new .now) (g .states .now) (g .numbers .now) (g .picture .now) rows) in by-work work.PowerOn w _ (c .before .enum-told2 .given .1) (record-of (w .lent) (c .powered .ensures))
 
 returns-3 : tie.Need-returns-3
-returns-3 c = λ rows. by-work _ _ _ (c .before .enum-told3 .given .1) (record-of _ (c .powered2 .ensures))
+returns-3 c = λ rows. let g = c .before .before .before .before .before .before .before .before .args in let w : World = world (g .p) (buffers (g .old .now) (g .new .now) (g .states .now) (g .numbers .now) (g .picture .now) rows) in by-work work.PowerOff w _ (c .before .enum-told3 .given .1) (record-of (w .lent) (c .powered2 .ensures))
 
 returns-4 : tie.Need-returns-4
-returns-4 c = λ rows. by-work _ _ _ (c .before .enum-told4 .given .1) (record-of _ (c .fall-asleep .ensures))
+returns-4 c = λ rows. let g = c .before .before .before .before .before .before .before .before .args in let w : World = world (g .p) (buffers (g .old .now) (g .new .now) (g .states .now) (g .numbers .now) (g .picture .now) rows) in by-work work.DeepSleep w _ (c .before .enum-told4 .given .1) (record-of (w .lent) (c .fall-asleep .ensures))
 
 returns-5 : tie.Need-returns-5
-returns-5 c = λ rows. by-work _ _ _ (c .before .enum-told5 .given .1) (record-of _ (c .rested .ensures))
+returns-5 c = λ rows. let g = c .before .before .before .before .before .before .before .before .args in let w : World = world (g .p) (buffers (g .old .now) (g .new .now) (g .states .now) (g .numbers .now) (g .picture .now) rows) in by-work work.SoftReset w _ (c .before .enum-told5 .given .1) (record-of (w .lent) (c .rested .ensures))
 
 returns-6 : tie.Need-returns-6
-returns-6 c = λ rows. by-work _ _ _ (c .before .enum-told6 .given .1) (record-of _ (c .rested2 .ensures))
+returns-6 c = λ rows. let g = c .before .before .before .before .before .before .before .before .args in let w : World = world (g .p) (buffers (g .old .now) (g .new .now) (g .states .now) (g .numbers .now) (g .picture .now) rows) in by-work work.HardwareReset w _ (c .before .enum-told6 .given .1) (record-of (w .lent) (c .rested2 .ensures))
 
 same-length : tie.Need-same-length
 same-length c = search needs

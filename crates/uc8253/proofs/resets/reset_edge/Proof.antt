@@ -1,4 +1,6 @@
 -- `uc8253::resets::reset_edge` meets its contract, by the line and the edge.
+use Rattle.controller.specs.World.{World, world, buffers}
+-- `uc8253::resets::reset_edge` meets its contract, by the line and the edge.
 use Rattle.controller.specs.declared.Power.the-variants as power
 use Rattle.uc8253.proofs.ByCase.{by-fall, by-rise, record-of, cut-by}
 use mathlib.Core.Path.{refl}
@@ -22,7 +24,7 @@ same-length-3 : tie.Need-same-length-3
 same-length-3 c = search needs
 
 returns : tie.Need-returns
-returns c = λ old new. by-fall _ _ _ _ (c .before .before .before .before .before .before .before .before .before .if1 .taken) (c .before .before .before .before .before .before .before .before .before .before .enum-told .given .1) (c .before .before .before .before .before .fall .ensures old new)
+returns c = λ old new. let g = c .before .before .before .before .before .before .before .before .before .before .before .before .before .before .before .before .args in let w : World = world (g .p) (buffers old new (g .states .now) (g .numbers .now) (g .picture .now) (g .rows .now)) in by-fall power.Running (g .asserted) w _ (c .before .before .before .before .before .before .before .before .before .if1 .taken) (c .before .before .before .before .before .before .before .before .before .before .enum-told .given .1) (c .before .before .before .before .before .fall .ensures old new)
 
 enum-told-2 : tie.Need-enum-told-2
 enum-told-2 c = search needs
@@ -40,25 +42,25 @@ same-length-6 : tie.Need-same-length-6
 same-length-6 c = search needs
 
 returns-2 : tie.Need-returns-2
-returns-2 c = λ old new. by-fall _ _ _ _ (c .before .before .before .before .before .before .before .before .before .if2 .taken) (c .before .before .before .before .before .before .before .before .before .before .enum-told2 .given .1) (c .before .before .before .before .before .fall2 .ensures old new)
+returns-2 c = λ old new. let g = c .before .before .before .before .before .before .before .before .before .before .before .before .before .before .before .before .args in let w : World = world (g .p) (buffers old new (g .states .now) (g .numbers .now) (g .picture .now) (g .rows .now)) in by-fall power.Asleep (g .asserted) w _ (c .before .before .before .before .before .before .before .before .before .if2 .taken) (c .before .before .before .before .before .before .before .before .before .before .enum-told2 .given .1) (c .before .before .before .before .before .fall2 .ensures old new)
 
 enum-told-3 : tie.Need-enum-told-3
 enum-told-3 c = search needs
 
 returns-3 : tie.Need-returns-3
-returns-3 c = λ old new. by-fall _ _ _ _ (c .if3 .taken) (c .before .enum-told3 .given .1) refl
+returns-3 c = λ old new. let g = c .before .before .before .before .before .before .before .args in let w : World = world (g .p) (buffers old new (g .states .now) (g .numbers .now) (g .picture .now) (g .rows .now)) in by-fall power.InReset (g .asserted) w w (c .if3 .taken) (c .before .enum-told3 .given .1) refl
 
 rise-requires : tie.Need-rise-requires
 rise-requires c κs = search needs
 
 returns-4 : tie.Need-returns-4
-returns-4 c = λ old new. by-rise _ _ _ _ (c .if1 .left) (c .before .enum-told .given .1) refl
+returns-4 c = λ old new. let g = c .before .before .before .before .before .before .before .args in let w : World = world (g .p) (buffers old new (g .states .now) (g .numbers .now) (g .picture .now) (g .rows .now)) in by-rise power.Running (g .asserted) w w (c .if1 .left) (c .before .enum-told .given .1) refl
 
 returns-5 : tie.Need-returns-5
-returns-5 c = λ old new. by-rise _ _ _ _ (c .if2 .left) (c .before .enum-told2 .given .1) refl
+returns-5 c = λ old new. let g = c .before .before .before .before .before .before .before .args in let w : World = world (g .p) (buffers old new (g .states .now) (g .numbers .now) (g .picture .now) (g .rows .now)) in by-rise power.Asleep (g .asserted) w w (c .if2 .left) (c .before .enum-told2 .given .1) refl
 
 returns-6 : tie.Need-returns-6
-returns-6 c = λ old new. by-rise _ _ _ _ (c .before .if3 .left) (c .before .before .enum-told3 .given .1) (record-of _ (c .rise .ensures))
+returns-6 c = λ old new. let g = c .before .before .before .before .before .before .before .before .args in let w : World = world (g .p) (buffers old new (g .states .now) (g .numbers .now) (g .picture .now) (g .rows .now)) in by-rise power.InReset (g .asserted) w _ (c .before .if3 .left) (c .before .before .enum-told3 .given .1) (record-of (w .lent) (c .rise .ensures))
 
 pub reset-edge-spec : {M : Type 1} → statement M
 reset-edge-spec =

@@ -1,0 +1,5 @@
+pub mod LittleLaws
+pub mod ListedLaws
+pub mod CaptureLaws
+pub mod Placed
+pub mod Sizes

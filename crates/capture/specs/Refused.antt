@@ -1,0 +1,68 @@
+-- Document 01, "Making a panel, and being turned back", 8 to 10: what turns a capture back, in the program's order 8, 9, 1 to 4, 10.
+use mathlib.Core.Path.{_≡_}
+use mathlib.Core.Bool.{Bool, true, false, _||_, _&&_, not}
+use mathlib.Core.List.{List}
+use Prim.Native.Nat.{ℕ, zero, suc, _+_, _*_, _≤_, _<_}
+use lib.Dec.{eqb, ltb, leb}
+use lib.ListN.{length}
+use Rattle.base.specs.Pick.{pick}
+use Rattle.config.specs.Refusal.{refusal}
+use Rattle.capture.specs.Layout.{kindAt, valueAt, variantAt, flagsAt, offsetOf, countOf, configIn, pixelsOf}
+
+-- 8, broken capture: file under 320 or over 65,536 bytes, trailer offset not 10 × its count, or file length not offset + 320
+unfoldable pub broken : List ℕ → Bool
+broken file =
+    ltb (length file) 320
+    || (ltb 65536 (length file)
+    || (not (eqb (offsetOf file) (10 * countOf file))
+    || not (eqb (length file) (offsetOf file + 320))))
+
+-- the events listed: 1 command, 2 data, 3 read (0), 4 reset (1 asserted, 0 released), 5 advance (0)
+unfoldable pub listed : ℕ → ℕ → Bool
+listed kind value =
+    pick (eqb kind 1) true
+    (pick (eqb kind 2) true
+    (pick (eqb kind 3) (eqb value 0)
+    (pick (eqb kind 4) (leb value 1)
+    (pick (eqb kind 5) (eqb value 0) false))))
+
+-- each of the first n events is listed
+abbrev pub allListed : List ℕ → ℕ → Bool
+allListed file zero = true
+allListed file (suc n) = allListed file n && listed (kindAt file n) (valueAt file n)
+
+-- 9, bad event: variant above 1, a flag bit above bit 2, or an event kind or value not listed
+unfoldable pub badEvent : List ℕ → Bool
+badEvent file =
+    ltb 1 (variantAt file (offsetOf file))
+    || (ltb 7 (flagsAt file (offsetOf file))
+    || not (allListed file (countOf file)))
+
+-- 10, too many pixels: the program's panel has more than 8,000
+unfoldable pub tooMany : List ℕ → Bool
+tooMany file = ltb 8000 (pixelsOf (configIn file))
+
+-- the number of the first that is met, 0 if none is
+unfoldable pub captureRefused : List ℕ → ℕ
+captureRefused file =
+    pick (broken file) 8 (pick (badEvent file) 9
+    (pick (eqb (refusal (configIn file)) 0)
+    (pick (tooMany file) 10 0)
+    (refusal (configIn file))))
+
+-- where the events end: 10 × their count, 0 if the file is refused
+unfoldable pub eventsEnd : List ℕ → ℕ
+eventsEnd file = pick (eqb (captureRefused file) 0) (10 * countOf file) 0
+
+-- what a file has that meets none of them
+pub record Taken (file : List ℕ) : Type 0 where
+  pub least : 320 ≤ length file
+  pub most : length file ≤ 65536
+  pub offset-is : offsetOf file ≡ 10 * countOf file
+  pub length-is : length file ≡ offsetOf file + 320
+  pub count-most : countOf file ≤ 6521
+  pub variant-most : variantAt file (offsetOf file) ≤ 1
+  pub flags-most : flagsAt file (offsetOf file) ≤ 7
+  pub events-listed : (i : ℕ) → i < countOf file → listed (kindAt file i) (valueAt file i) ≡ true
+  pub config-taken : refusal (configIn file) ≡ 0
+  pub pixels-most : pixelsOf (configIn file) ≤ 8000

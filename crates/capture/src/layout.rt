@@ -1,0 +1,177 @@
+// The file's parts: the trailer at its end, and the configuration where the trailer points.
+ghost use mathlib.Core.Path.{_≡_};
+ghost use Prim.Native.Nat.{_+_, _-_, _<_};
+ghost use lib.ListN.{length};
+ghost use Rattle.capture.specs.Little.{little};
+ghost use Rattle.capture.specs.Layout as spec;
+use crate::numbers::byte;
+use crate::numbers::number;
+use config::FRAME_RATE_CODES;
+use config::Uc8253Config;
+use config::Uc8253Geometry;
+use config::Uc8253Timing;
+use config::Variant;
+use glass::Optics;
+
+// How far the trailer's two numbers lie before the file's end.
+pub(crate) const OFFSET_BACK: usize = 8;
+
+pub(crate) const COUNT_BACK: usize = 4;
+
+// Where the configuration's parts begin.
+const FLAGS: usize = 1;
+
+const SOURCES: usize = 2;
+
+const GATES: usize = 4;
+
+const INITIAL_GRAY: usize = 6;
+
+const AMBIENT: usize = 7;
+
+const FULL_SWING: usize = 8;
+
+const POWER_ON: usize = 16;
+
+const POWER_OFF: usize = 24;
+
+const DEEP_SLEEP: usize = 32;
+
+const SOFT_RESET: usize = 40;
+
+const HARDWARE_RESET: usize = 48;
+
+const PERIODS: usize = 56;
+
+// The flags by weight.
+const ROWS_REVERSED: u8 = 1;
+
+const COLUMNS_REVERSED: u8 = 2;
+
+const POSITIVE_DRIVES_BLACK: u8 = 4;
+
+// The number of four bytes that begins so many bytes before the file's end.
+pub(crate) fn word(file: &[u8], back: usize) -> u64
+    ensures { λ r. ⌜ (r ≡ little (now (file .entry)) (length (now (file .entry)) - back) 4) × (r < 4_294_967_296) ⌝ }
+{
+    if file.len() < back {
+        return number(file, 0, 4);
+    }
+    number(file, file.len() - back, 4)
+}
+
+// The offset of the 312 bytes, by the trailer.
+pub fn offset(file: &[u8]) -> u64
+    ensures { λ r. ⌜ r ≡ spec.offsetOf (now (file .entry)) ⌝ }
+{
+    word(file, OFFSET_BACK)
+}
+
+// The event count, by the trailer.
+pub fn count(file: &[u8]) -> u64
+    ensures { λ r. ⌜ r ≡ spec.countOf (now (file .entry)) ⌝ }
+{
+    word(file, COUNT_BACK)
+}
+
+fn variant(b: u8) -> Variant
+    ensures { λ r. ⌜ r ≡ spec.variantOf b ⌝ }
+{
+    if b == 0 {
+        return Variant::Uc8253;
+    }
+    Variant::Uc8279d
+}
+
+// The number of two bytes at a place.
+fn half(file: &[u8], at: usize) -> u16
+    ensures { λ r. ⌜ r ≡ little (now (file .entry)) at 2 ⌝ }
+{
+    number(file, at, 2) as u16
+}
+
+fn panel(file: &[u8], at: usize) -> Uc8253Geometry
+    requires { ⌜ at < 4_294_967_296 ⌝ }
+    ensures { λ r. ⌜ r ≡ spec.panelOf (now (file .entry)) at ⌝ }
+{
+    let flags = byte(file, at, FLAGS);
+    let sources = half(file, at + SOURCES);
+    let gates = half(file, at + GATES);
+    Uc8253Geometry {
+        sources,
+        gates,
+        rows_reversed: flags / ROWS_REVERSED % 2 == 1,
+        columns_reversed: flags / COLUMNS_REVERSED % 2 == 1,
+    }
+}
+
+fn optics(file: &[u8], at: usize) -> Optics
+    requires { ⌜ at < 4_294_967_296 ⌝ }
+    ensures { λ r. ⌜ r ≡ spec.opticsOf (now (file .entry)) at ⌝ }
+{
+    let flags = byte(file, at, FLAGS);
+    let full_swing = number(file, at + FULL_SWING, 8);
+    let initial_gray = byte(file, at, INITIAL_GRAY);
+    Optics {
+        full_swing,
+        positive_drives_black: flags / POSITIVE_DRIVES_BLACK % 2 == 1,
+        initial_gray,
+    }
+}
+
+fn periods(file: &[u8], at: usize) -> [u64; FRAME_RATE_CODES]
+    requires { ⌜ at < 4_294_967_296 ⌝ }
+    ensures { λ r. ⌜ r ≡ spec.periodsOf (now (file .entry)) at 32 ⌝ }
+{
+    let mut periods = [0; FRAME_RATE_CODES];
+    for code in 0..FRAME_RATE_CODES {
+        periods[code] = number(file, at + PERIODS + 8 * code, 8);
+    }
+    periods
+}
+
+fn timing(file: &[u8], at: usize) -> Uc8253Timing
+    requires { ⌜ at < 4_294_967_296 ⌝ }
+    ensures { λ r. ⌜ r ≡ spec.timingOf (now (file .entry)) at ⌝ }
+{
+    let power_on = number(file, at + POWER_ON, 8);
+    let power_off = number(file, at + POWER_OFF, 8);
+    let deep_sleep = number(file, at + DEEP_SLEEP, 8);
+    let soft_reset = number(file, at + SOFT_RESET, 8);
+    let hardware_reset = number(file, at + HARDWARE_RESET, 8);
+    let frame_period = periods(file, at);
+    Uc8253Timing {
+        power_on,
+        power_off,
+        deep_sleep,
+        soft_reset,
+        hardware_reset,
+        frame_period,
+    }
+}
+
+// The configuration where the trailer points.
+pub fn config(file: &[u8]) -> Uc8253Config
+    ensures { λ r. ⌜ r ≡ spec.configIn (now (file .entry)) ⌝ }
+{
+    let at = word(file, OFFSET_BACK) as usize;
+    let variant = variant(byte(file, at, 0));
+    let panel = panel(file, at);
+    let optics = optics(file, at);
+    let timing = timing(file, at);
+    let ambient_celsius = byte(file, at, AMBIENT);
+    Uc8253Config {
+        variant,
+        panel,
+        optics,
+        timing,
+        ambient_celsius,
+    }
+}
+
+// The pixels of a panel: sources × gates.
+pub fn pixels(c: Uc8253Config) -> usize
+    ensures { λ r. ⌜ r ≡ spec.pixelsOf c ⌝ }
+{
+    c.panel.sources as usize * c.panel.gates as usize
+}
