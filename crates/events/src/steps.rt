@@ -1,0 +1,106 @@
+// One event: the call that its kind stands for, with the refusal's number and what a read gave.
+ghost use mathlib.Core.Path.{_≡_};
+ghost use Rattle.controller.specs.World.{buffers, world};
+ghost use Rattle.events.specs.Events as rule;
+use crate::Event;
+use controller::Read;
+use controller::Uc8253;
+use uc8253::Answer;
+use uc8253::ReadAnswer;
+use uc8253::advance;
+use uc8253::read_data;
+use uc8253::set_reset;
+use uc8253::write_command;
+use uc8253::write_data;
+
+// The kinds of an event.
+pub const COMMAND: u8 = 1;
+
+pub const DATA: u8 = 2;
+
+pub const READ: u8 = 3;
+
+pub const RESET: u8 = 4;
+
+pub const ADVANCE: u8 = 5;
+
+// The answers that are no byte: a read that gave none, and an event that is no read.
+pub const NOTHING: u16 = 256;
+
+pub const NO_READ: u16 = 257;
+
+// The record after an event, the number of the refusal, and what a read gave.
+pub struct Stepped {
+    pub chip: Uc8253,
+    pub refused: u8,
+    pub answer: u16,
+}
+
+// After a call that reads nothing.
+fn no_read(a: Answer) -> Stepped
+    ensures { λ r. ⌜ r ≡ record { chip = a .chip; refused = a .refused; answer = 257 } ⌝ }
+{
+    let chip = a.chip;
+    Stepped {
+        chip,
+        refused: a.refused,
+        answer: NO_READ,
+    }
+}
+
+// The number of what a read gave.
+fn read_number(byte: Read) -> u16
+    ensures { λ r. ⌜ r ≡ rule.readNumber byte ⌝ }
+{
+    match byte {
+        Read::Byte(b) => b as u16,
+        Read::Nothing => NOTHING,
+    }
+}
+
+// After a read.
+fn with_byte(a: ReadAnswer) -> Stepped
+    ensures { λ r. ⌜ r ≡ record { chip = a .chip; refused = a .refused; answer = rule.readNumber (a .byte) } ⌝ }
+{
+    let chip = a.chip;
+    let byte = a.byte;
+    let answer = read_number(byte);
+    Stepped {
+        chip,
+        refused: a.refused,
+        answer,
+    }
+}
+
+// The event's call; an event of any other kind does nothing.
+pub fn step(
+    p: Uc8253,
+    event: Event,
+    old: &mut [u8],
+    new: &mut [u8],
+    states: &mut [i64],
+    numbers: &mut [u8],
+    picture: &mut [u8],
+    rows: &mut [u64],
+) -> Stepped
+    ensures { λ r. ⌜ world (r .chip) (buffers (now (old .exit)) (now (new .exit)) (now (states .exit)) (now (numbers .exit)) (now (picture .exit)) (now (rows .exit)))
+        ≡ rule.eventDone event (world p (buffers (now (old .entry)) (now (new .entry)) (now (states .entry)) (now (numbers .entry)) (now (picture .entry)) (now (rows .entry)))) ⌝ }
+    ensures { λ r. ⌜ (r .refused ≡ rule.eventRefused event (world p (buffers (now (old .entry)) (now (new .entry)) (now (states .entry)) (now (numbers .entry)) (now (picture .entry)) (now (rows .entry)))))
+        × (r .answer ≡ rule.eventAnswer event (world p (buffers (now (old .entry)) (now (new .entry)) (now (states .entry)) (now (numbers .entry)) (now (picture .entry)) (now (rows .entry))))) ⌝ }
+{
+    let at = event.time;
+    let value = event.value;
+    let kind = event.kind;
+    match kind {
+        COMMAND => no_read(write_command(p, at, value, old, new, states, numbers, picture, rows)),
+        DATA => no_read(write_data(p, at, value, old, new, states, numbers, picture, rows)),
+        READ => with_byte(read_data(p, at, old, new, states, numbers, picture, rows)),
+        RESET => no_read(set_reset(p, at, value == 1, old, new, states, numbers, picture, rows)),
+        ADVANCE => no_read(advance(p, at, old, new, states, numbers, picture, rows)),
+        _ => Stepped {
+            chip: p,
+            refused: 0,
+            answer: NO_READ,
+        },
+    }
+}

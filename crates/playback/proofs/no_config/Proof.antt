@@ -1,0 +1,12 @@
+-- `playback::no_config` meets its contract: both are zeros.
+use Rattle.controller.specs.Calls.{zeros}
+use mathlib.Core.Path.{refl}
+use Rattle.playback.proofs.no_config.Statement.{statement}
+use Rattle.playback.proofs.no_config.Tie as tie
+
+returns : tie.Need-returns
+unfolding zeros
+returns c = refl
+
+pub no-config-spec : {M : Type 1} → statement M
+no-config-spec = tie.close (tie.spec returns)
