@@ -8,7 +8,7 @@ use crate::layout::OFFSET_BACK;
 use crate::layout::config;
 use crate::layout::pixels;
 use crate::layout::word;
-use crate::numbers::byte;
+use crate::words::byte;
 use config::Validity;
 
 // Bytes of an event, and where in it the kind and the value stand.

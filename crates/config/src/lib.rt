@@ -36,6 +36,7 @@ pub enum Variant {
 }
 
 // How the glass's pixels sit on the controller's lines.
+#[repr(C)]
 pub struct Uc8253Geometry {
     // Sources wired to the glass, from S0: its width.
     pub sources: u16,
@@ -66,6 +67,7 @@ impl Uc8253Geometry {
 
 // How long each operation keeps `BUSY_N` low, in nanoseconds, and the frame period of each `PLL`
 // code. Every value that no datasheet gives is an ASSUMPTION.
+#[repr(C)]
 pub struct Uc8253Timing {
     // `PON` until every supply is up: about 127 ms, measured on an X3.
     pub power_on: u64,

@@ -4,6 +4,7 @@ use mathlib.Core.Bool.{false}
 use mathlib.Core.List.{List, [], _∷_}
 use Prim.Native.Nat.{ℕ, zero, suc, _+_, _*_, _/_, _≤_, _<_}
 use native.Mathlib.Nat.{add-mul, add-assoc}
+use native.Mathlib.Numerals.{add-one}
 use native.Mathlib.Omega.{arith}
 use lib.Dec.{eqb}
 use lib.ListN.{length, getD, drop}
@@ -87,6 +88,27 @@ pub event-read : (bytes : List ℕ) (i t k v : ℕ) → t ≡ little bytes (i * 
     → record { time = t; kind = k; value = v } ≡ eventAt bytes i
 unfolding eventAt
 event-read bytes i t k v a b c = λ j. record { time = a j; kind = b j; value = c j }
+
+-- one that lies whole in the bytes, its time by halves
+little-step : (bytes : List ℕ) (p k n : ℕ) → little bytes (p + k) (suc n) ≡ getD bytes (p + k) 0 + 256 * little bytes (p + (k + 1)) n
+little-step bytes p k n =
+    let e : suc (p + k) ≡ p + (k + 1) = omega arith in
+    ap (λ (q : ℕ). getD bytes (p + k) 0 + 256 * little bytes q n) e
+
+little-eight : (bytes : List ℕ) (p a b c d f l t : ℕ)
+    → a ≡ getD bytes p 0 + 256 * getD bytes (p + 1) 0 → b ≡ getD bytes (p + 2) 0 + 256 * getD bytes (p + 3) 0
+    → c ≡ getD bytes (p + 4) 0 + 256 * getD bytes (p + 5) 0 → d ≡ getD bytes (p + 6) 0 + 256 * getD bytes (p + 7) 0
+    → f ≡ a + 65_536 * b → l ≡ c + 65_536 * d → t ≡ f + 4_294_967_296 * l → t ≡ little bytes p 8
+little-eight bytes p a b c d f l t ha hb hc hd hf hl ht =
+    let e : little bytes p 8 ≡ getD bytes p 0 + 256 * little bytes (p + 1) 7 = ap (λ (q : ℕ). getD bytes p 0 + 256 * little bytes q 7) (sym (add-one p)) in
+    omega (arith, e, little-step bytes p 1 6, little-step bytes p 2 5, little-step bytes p 3 4, little-step bytes p 4 3, little-step bytes p 5 2, little-step bytes p 6 1, little-step bytes p 7 0)
+
+pub event-whole : (bytes : List ℕ) (i : ℕ) {a b c d f l t : ℕ}
+    → a ≡ getD bytes (i * 10) 0 + 256 * getD bytes (i * 10 + 1) 0 → b ≡ getD bytes (i * 10 + 2) 0 + 256 * getD bytes (i * 10 + 3) 0
+    → c ≡ getD bytes (i * 10 + 4) 0 + 256 * getD bytes (i * 10 + 5) 0 → d ≡ getD bytes (i * 10 + 6) 0 + 256 * getD bytes (i * 10 + 7) 0
+    → f ≡ a + 65_536 * b → l ≡ c + 65_536 * d → t ≡ f + 4_294_967_296 * l
+    → record { time = t; kind = getD bytes (i * 10 + 8) 0; value = getD bytes (i * 10 + 9) 0 } ≡ eventAt bytes i
+event-whole bytes i ha hb hc hd hf hl ht = event-read bytes i _ _ _ (little-eight bytes (i * 10) _ _ _ _ _ _ _ ha hb hc hd hf hl ht) refl refl
 
 pub event-drop : (i : ℕ) (bytes : List ℕ) (j : ℕ) → eventAt (drop (i * 10) bytes) j ≡ eventAt bytes (i + j)
 unfolding eventAt

@@ -1,12 +1,10 @@
--- A run under way: after i events the world, the answers and the refusal are the definition's, and no lent buffer has changed its length; one event more keeps it so.
+-- A run under way: after i events the world, the answers and the refusal are the definition's, and no lent buffer has changed its length.
 use mathlib.Core.Path.{_≡_, refl, _∙_}
 use mathlib.Core.List.{List}
-use Prim.Native.Nat.{ℕ, _+_}
-use lib.ListN.{length, set}
+use Prim.Native.Nat.{ℕ}
+use lib.ListN.{length}
 use Rattle.controller.specs.World.{World, Buffers}
-use Rattle.events.specs.declared.Event.{Event}
-use Rattle.events.specs.Events.{eventAt, eventDone, eventRefused, eventAnswer, ranTo, answersTo, earlier, refusedIn}
-use Rattle.events.proofs.RunLaws.{ran-more, answers-more, refused-more}
+use Rattle.events.specs.Events.{ranTo, answersTo, refusedIn}
 
 pub record Going (bytes : List ℕ) (i : ℕ) (w v : World) (answers₀ answers : List ℕ) (refused : ℕ) : Type 0 where
   pub is : v ≡ ranTo bytes i w
@@ -38,17 +36,4 @@ lengths-more g h =
       numbers-long = h .numbers-long ∙ g .numbers-long;
       picture-long = h .picture-long ∙ g .picture-long;
       rows-long = h .rows-long ∙ g .rows-long;
-    }
-
--- one event more: e is its event, r what it was refused with, x its answer
-pub going-more : {bytes : List ℕ} {i : ℕ} {w v u : World} {answers₀ answers more : List ℕ} {refused r n x : ℕ} {e : Event}
-    → Going bytes i w v answers₀ answers refused → e ≡ eventAt bytes i
-    → u ≡ eventDone e v → n ≡ eventRefused e v → x ≡ eventAnswer e v
-    → more ≡ set answers i x → r ≡ earlier refused n
-    → Going bytes (i + 1) w u answers₀ more r
-going-more {bytes} {i} {w} {answers₀ = answers₀} g q done turned gives put first =
-    record {
-      is = done ∙ (λ j. eventDone (q j) (g .is j)) ∙ ran-more bytes i w;
-      gave = put ∙ (λ j. set (g .gave j) i ((gives ∙ (λ k. eventAnswer (q k) (g .is k))) j)) ∙ answers-more bytes i w answers₀;
-      turned = first ∙ (λ j. earlier (g .turned j) ((turned ∙ (λ k. eventRefused (q k) (g .is k))) j)) ∙ refused-more bytes i w;
     }

@@ -2,3 +2,5 @@ pub mod LittleLaws
 pub mod EventLaws
 pub mod RunLaws
 pub mod Going
+pub mod StreamLaws
+pub mod SomeLaws

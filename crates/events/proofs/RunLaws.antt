@@ -1,4 +1,4 @@
--- A run of events: one more, two runs joined, and that on a sound record no event is turned back and it stays sound.
+-- A run of events: two runs joined, and that on a sound record no event is turned back and it stays sound.
 use mathlib.Core.Path.{_≡_, refl, sym, ap, _∙_}
 use mathlib.Core.Bool.{Bool, false}
 use mathlib.Core.List.{List}
@@ -11,7 +11,7 @@ use Rattle.base.specs.Pick.{between}
 use Rattle.base.specs.Turns.{turns}
 use Rattle.base.proofs.Cases.{both}
 use Rattle.base.proofs.Lists.{getD-past}
-use Rattle.base.proofs.Turns.{turns-more, turns-join, turns-same, turns-keep}
+use Rattle.base.proofs.Turns.{turns-join, turns-same, turns-keep}
 use Rattle.controller.specs.World.{World}
 use Rattle.controller.specs.TurnedBack.{turnedBack}
 use Rattle.controller.specs.Arrives.{arrived}
@@ -21,20 +21,6 @@ use Rattle.controller.proofs.Sound.{sound-arrived, sound-command, sound-data, s
 use Rattle.events.specs.declared.Event.{Event}
 use Rattle.events.specs.Events.{eventAt, asserts, eventDone, eventRefused, eventAnswer, ranTo, answersTo, earlier, refusedIn}
 use Rattle.events.proofs.EventLaws.{event-drop}
-
--- ---- one event more
-module _ (bytes : List ℕ) (i : ℕ) (w : World) where
-  pub ran-more : eventDone (eventAt bytes i) (ranTo bytes i w) ≡ ranTo bytes (i + 1) w
-  unfolding ranTo
-  ran-more = turns-more i (λ k v. eventDone (eventAt bytes k) v) w
-
-  pub answers-more : (answers : List ℕ) → set (answersTo bytes i w answers) i (eventAnswer (eventAt bytes i) (ranTo bytes i w)) ≡ answersTo bytes (i + 1) w answers
-  unfolding answersTo
-  answers-more answers = turns-more i (λ k l. set l k (eventAnswer (eventAt bytes k) (ranTo bytes k w))) answers
-
-  pub refused-more : earlier (refusedIn bytes i w) (eventRefused (eventAt bytes i) (ranTo bytes i w)) ≡ refusedIn bytes (i + 1) w
-  unfolding refusedIn
-  refused-more = turns-more i (λ k r. earlier r (eventRefused (eventAt bytes k) (ranTo bytes k w))) 0
 
 pub answers-length : (bytes : List ℕ) (n : ℕ) (w : World) (answers : List ℕ) → length (answersTo bytes n w answers) ≡ length answers
 unfolding answersTo

@@ -5,6 +5,7 @@
 // there is no room is not kept.
 mod bytes;
 mod steps;
+mod streams;
 
 pub use steps::ADVANCE;
 pub use steps::COMMAND;
@@ -16,12 +17,15 @@ pub use steps::RESET;
 pub use steps::Stepped;
 pub use steps::step;
 ghost use mathlib.Core.Path.{_≡_};
-ghost use lib.ListN.{set};
 ghost use Rattle.controller.specs.World.{buffers, world};
+ghost use Prim.Native.Nat.{_+_, _*_, _^_, _<_};
+ghost use lib.ListN.{set};
 ghost use Rattle.events.specs.Events as rule;
+ghost use Rattle.events.specs.Stretch as stretch;
 use bytes::byte_at;
 use capture::little;
 use controller::Uc8253;
+use streams::stream;
 
 // An event has ten bytes.
 pub const EVENT_BYTES: usize = 10;
@@ -39,12 +43,56 @@ pub struct Ran {
     pub refused: u8,
 }
 
+// Two numbers as the low and the high half of one.
+fn pair(low: u8, high: u8) -> u16
+    ensures { λ r. ⌜ r ≡ low + 256 * high ⌝ }
+{
+    low as u16 + 256 * (high as u16)
+}
+
+fn four(low: u16, high: u16) -> u32
+    ensures { λ r. ⌜ r ≡ low + 65_536 * high ⌝ }
+{
+    low as u32 + 65_536 * (high as u32)
+}
+
+fn eight(low: u32, high: u32) -> u64
+    ensures { λ r. ⌜ r ≡ low + 4_294_967_296 * high ⌝ }
+{
+    low as u64 + 4_294_967_296 * (high as u64)
+}
+
+// An event that lies whole in the bytes.
+fn whole_event(events: &[u8], index: usize) -> Event
+    requires { ⌜ index < rule.eventsIn (now events) ⌝ }
+    ensures { λ r. ⌜ r ≡ rule.eventAt (now (events .entry)) index ⌝ }
+{
+    let place = index * EVENT_BYTES;
+    let first = four(
+        pair(events[place], events[place + 1]),
+        pair(events[place + 2], events[place + 3]),
+    );
+    let last = four(
+        pair(events[place + 4], events[place + 5]),
+        pair(events[place + 6], events[place + 7]),
+    );
+    Event {
+        time: eight(first, last),
+        kind: events[place + 8],
+        value: events[place + 9],
+    }
+}
+
 // The event of that index. One that begins past the end is all zeros, also where its place would
 // be no number of the machine's.
 pub fn event_at(events: &[u8], index: usize) -> Event
     ensures { λ r. ⌜ r ≡ rule.eventAt (now (events .entry)) index ⌝ }
 {
-    if events.len() / EVENT_BYTES < index {
+    let whole = events.len() / EVENT_BYTES;
+    if index < whole {
+        return whole_event(events, index);
+    }
+    if whole < index {
         return Event {
             time: 0,
             kind: 0,
@@ -74,6 +122,65 @@ fn earlier(before: u8, next: u8) -> u8
     if before == 0 { next } else { before }
 }
 
+// So many answers from a place on become that of an event that reads nothing.
+fn mark(answers: &mut [u16], from: usize, count: usize)
+    requires { ⌜ from + count < 2 ^ 64 ⌝ }
+    ensures { λ r. ⌜ now (answers .exit) ≡ stretch.marked from count (now (answers .entry)) ⌝ }
+{
+    let mut k: usize = 0;
+    while k < count {
+        put(answers, from + k, NO_READ);
+        k += 1;
+    }
+}
+
+// The record after some events, the number of their first refusal, and how many there were.
+struct Went {
+    chip: Uc8253,
+    refused: u8,
+    done: usize,
+}
+
+// The next events: those of a run of pixel bytes, else one.
+fn next_events(
+    p: Uc8253,
+    events: &[u8],
+    from: usize,
+    answers: &mut [u16],
+    old: &mut [u8],
+    new: &mut [u8],
+    states: &mut [i64],
+    numbers: &mut [u8],
+    picture: &mut [u8],
+    rows: &mut [u64],
+) -> Went
+    requires { ⌜ from < rule.eventsIn (now events) ⌝ }
+    ensures { λ r. ⌜ stretch.Goes (now (events .entry)) from (r .done)
+        (world p (buffers (now (old .entry)) (now (new .entry)) (now (states .entry)) (now (numbers .entry)) (now (picture .entry)) (now (rows .entry))))
+        (world (r .chip) (buffers (now (old .exit)) (now (new .exit)) (now (states .exit)) (now (numbers .exit)) (now (picture .exit)) (now (rows .exit))))
+        (now (answers .entry)) (now (answers .exit)) (r .refused) ⌝ }
+{
+    let f = stream(p, events, from, old, new, states, numbers, picture, rows);
+    let chip = f.chip;
+    if f.done != 0 {
+        mark(answers, from, f.done);
+        return Went {
+            chip,
+            refused: 0,
+            done: f.done,
+        };
+    }
+    let event = event_at(events, from);
+    let s = step(chip, event, old, new, states, numbers, picture, rows);
+    put(answers, from, s.answer);
+    let after = s.chip;
+    Went {
+        chip: after,
+        refused: s.refused,
+        done: 1,
+    }
+}
+
 // All whole events of the bytes, one after the other: a refused one changes nothing, and the run goes on.
 pub fn run(
     p: Uc8253,
@@ -96,12 +203,21 @@ pub fn run(
     let mut refused: u8 = 0;
     let mut i: usize = 0;
     while i < count {
-        let event = event_at(events, i);
-        let s = step(chip, event, old, new, states, numbers, picture, rows);
+        let s = next_events(
+            chip,
+            events,
+            i,
+            answers,
+            old,
+            new,
+            states,
+            numbers,
+            picture,
+            rows,
+        );
         chip = s.chip;
         refused = earlier(refused, s.refused);
-        put(answers, i, s.answer);
-        i += 1;
+        i += s.done;
     }
     Ran { chip, refused }
 }

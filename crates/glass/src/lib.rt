@@ -17,6 +17,7 @@ use base::saturating_add;
 use base::saturating_sub;
 
 // How the glass answers the waveform.
+#[repr(C)]
 pub struct Optics {
     // The drive from black to white, in millivolts times nanoseconds.
     pub full_swing: u64,
@@ -86,10 +87,10 @@ fn net(a: u64, b: u64, c: u64, d: u64) -> u64
 
 // What a run of frames does to a state: it adds up, takes down away and holds to lo ..= hi.
 pub struct Transfer {
-    up: u64,
-    down: u64,
-    lo: u64,
-    hi: u64,
+    pub up: u64,
+    pub down: u64,
+    pub lo: u64,
+    pub hi: u64,
 }
 
 impl Transfer {

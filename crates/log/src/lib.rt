@@ -10,6 +10,7 @@ use diagnostic::MAX_DIAGNOSTICS;
 use diagnostic::ROW;
 use diagnostic::row;
 
+#[repr(C)]
 pub struct Log {
     // The rows stored since they were last taken.
     pub stored: u16,

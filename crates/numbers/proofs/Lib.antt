@@ -1,2 +1,3 @@
+pub mod BitLaws
 pub mod FilledLaws
 pub mod NumberLaws

@@ -88,14 +88,13 @@ number-by-row p old new y x =
 
 -- ---- looking for 255
 module _ (l : List ℕ) (i : ℕ) where
-  pub undriven-here : i < length l → getD l i 0 ≡ 255 → someUndriven (drop i l) ≡ true
-  undriven-here h e = rw (drop-cons l i 0 h, e)
+  pub undriven-next : i < length l → (any : Bool) → (any || eqb (getD l i 0) 255) || someUndriven (drop (i + 1) l) ≡ any || someUndriven (drop i l)
+  undriven-next h true = refl
+  undriven-next h false = rw (drop-cons l i 0 h, add-one i)
 
-  pub undriven-later : i < length l → eqb (getD l i 0) 255 ≡ false → someUndriven (drop i l) ≡ someUndriven (drop (i + 1) l)
-  undriven-later h e = rw (drop-cons l i 0 h, e, add-one i)
-
-  pub undriven-none : length l ≤ i → someUndriven (drop i l) ≡ false
-  undriven-none h = rw (drop-of-length-le l h)
+  pub undriven-none : length l ≤ i → (any : Bool) → any || someUndriven (drop i l) ≡ any
+  undriven-none h true = refl
+  undriven-none h false = rw (drop-of-length-le l h)
 
 -- ---- eight pixels that show a byte of each plane
 no-test : {X : Type 0} → _≡_ {A = Bool} false true → X

@@ -1,8 +1,11 @@
 // The number of each pixel of the panel: the table that drives it in a refresh (mod.rs,
 // `ram_pixel` and `luts_of_pixels`).
 ghost use mathlib.Core.Path.{_≡_};
-ghost use Prim.Native.Nat.{_<_, _+_, _-_, _^_, min, max};
+ghost use Prim.Native.Nat.{ℕ, _<_, _≤_, _+_, _-_, _^_, min, max};
+ghost use lib.Dec.{eqb};
+ghost use lib.ListN.{length};
 ghost use Rattle.base.specs.Pick.{pick};
+ghost use Rattle.ram.specs.Plane.{bitOf};
 ghost use Rattle.numbers.specs.Filled.{filled, rowsFilled};
 ghost use Rattle.numbers.specs.Row.{noRow, rowAt, numberIn, numberOfBit, byteInside, wholeByte, Some};
 ghost use Rattle.numbers.specs.Number.{pixelsOf, reversedOf, shownAt, tableOf, numberOf, someUndriven};
@@ -190,8 +193,33 @@ fn number_in(old: &[u8], new: &[u8], row: Row, white: u8, c: u32) -> u8
     table_number(bit(old, x, row.row) == white, bit(new, x, row.row) == white)
 }
 
-// The numbers of eight pixels that show a byte of each plane, highest bit first.
-fn eight(numbers: &mut [u8], at: usize, old: u8, new: u8, white: u8)
+// The byte that has a 1 where b has the bit that is white.
+fn whites(b: u8, white: u8) -> u8
+    ensures { λ r. ⌜ ((k : ℕ) → k < 8 → eqb (bitOf r k) 1 ≡ eqb (bitOf b k) white) ⌝ }
+{
+    if white == 0 {
+        return 255 - b;
+    }
+    if white == 1 {
+        return b;
+    }
+    0
+}
+
+// The numbers of eight pixels that have room, 1 being white: with no branch for a pixel.
+fn eight_of_ones(numbers: &mut [u8], at: usize, old: u8, new: u8)
+    requires { ⌜ at + 8 ≤ length (now numbers) ⌝ }
+    ensures { λ r. ⌜ now (numbers .exit) ≡ filled (numberOfBit old new 1) at 8 (now (numbers .entry)) ⌝ }
+{
+    for k in 0usize..8 {
+        let o = (old >> (7 - k)) % 2;
+        let n = (new >> (7 - k)) % 2;
+        numbers[at + k] = 4 - o - n - n;
+    }
+}
+
+// The numbers of eight pixels of which some may lie past the end.
+fn eight_stored(numbers: &mut [u8], at: usize, old: u8, new: u8, white: u8)
     requires { ⌜ at < 2 ^ 33 ⌝ }
     ensures { λ r. ⌜ now (numbers .exit) ≡ filled (numberOfBit old new white) at 8 (now (numbers .entry)) ⌝ }
 {
@@ -200,6 +228,18 @@ fn eight(numbers: &mut [u8], at: usize, old: u8, new: u8, white: u8)
         let n = (new >> (7 - k)) % 2;
         store(numbers, at + k, table_number(o == white, n == white));
     }
+}
+
+// The numbers of eight pixels that show a byte of each plane, highest bit first.
+fn eight(numbers: &mut [u8], at: usize, old: u8, new: u8, white: u8)
+    requires { ⌜ at < 2 ^ 33 ⌝ }
+    ensures { λ r. ⌜ now (numbers .exit) ≡ filled (numberOfBit old new white) at 8 (now (numbers .entry)) ⌝ }
+{
+    if at + 8 <= numbers.len() {
+        eight_of_ones(numbers, at, whites(old, white), whites(new, white));
+        return;
+    }
+    eight_stored(numbers, at, old, new, white);
 }
 
 // Whether a byte begins at column x, and its eight columns lie in the row and inside both areas.
@@ -307,12 +347,11 @@ pub fn numbers(numbers: &mut [u8], old: &[u8], new: &[u8], p: Pixels)
 pub fn some_undriven(numbers: &[u8]) -> bool
     ensures { λ r. ⌜ r ≡ someUndriven (now (numbers .entry)) ⌝ }
 {
+    let mut any = false;
     let mut i = 0;
     while i < numbers.len() {
-        if numbers[i] == UNDRIVEN {
-            return true;
-        }
+        any = any | (numbers[i] == UNDRIVEN);
         i += 1;
     }
-    false
+    any
 }

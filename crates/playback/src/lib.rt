@@ -2,74 +2,18 @@
 // other.
 ghost use mathlib.Core.Path.{_≡_};
 ghost use Rattle.controller.specs.World.{buffers, world};
-ghost use Rattle.controller.specs.Calls as calls;
 ghost use Rattle.playback.specs.Played as rule;
 use capture::config;
 use capture::events_end;
-use config::Uc8253Config;
-use config::Uc8253Geometry;
-use config::Uc8253Timing;
-use config::Variant;
 use controller::Uc8253;
 use events::run;
-use glass::Optics;
 use uc8253::power_on;
+use uc8253::zeros;
 
 // The record after the last event, and the number of the refusal, 0 where the capture was played.
 pub struct Played {
     pub chip: Uc8253,
     pub refused: u8,
-}
-
-// A configuration of zeros, whose making is refused: it gives the record of zeros.
-fn no_config() -> Uc8253Config
-    ensures { λ r. ⌜ r ≡ calls.zeros .config ⌝ }
-{
-    let panel = Uc8253Geometry {
-        sources: 0,
-        gates: 0,
-        rows_reversed: false,
-        columns_reversed: false,
-    };
-    let optics = Optics {
-        full_swing: 0,
-        positive_drives_black: false,
-        initial_gray: 0,
-    };
-    let timing = Uc8253Timing {
-        power_on: 0,
-        power_off: 0,
-        deep_sleep: 0,
-        soft_reset: 0,
-        hardware_reset: 0,
-        frame_period: [0; 32],
-    };
-    Uc8253Config {
-        variant: Variant::Uc8253,
-        panel,
-        optics,
-        timing,
-        ambient_celsius: 0,
-    }
-}
-
-// A refused capture: the zeros, and nothing lent is changed.
-fn turned_back(
-    refused: u8,
-    old: &mut [u8],
-    new: &mut [u8],
-    states: &mut [i64],
-    numbers: &mut [u8],
-    picture: &mut [u8],
-    rows: &mut [u64],
-) -> Played
-    ensures { λ r. ⌜ world (r .chip) (buffers (now (old .exit)) (now (new .exit)) (now (states .exit)) (now (numbers .exit)) (now (picture .exit)) (now (rows .exit)))
-        ≡ world calls.zeros (buffers (now (old .entry)) (now (new .entry)) (now (states .entry)) (now (numbers .entry)) (now (picture .entry)) (now (rows .entry))) ⌝ }
-    ensures { λ r. ⌜ r .refused ≡ refused ⌝ }
-{
-    let made = power_on(no_config(), old, new, states, numbers, picture, rows);
-    let chip = made.chip;
-    Played { chip, refused }
 }
 
 // A capture that is not refused: the making, and then the events.
@@ -133,7 +77,8 @@ pub fn play(
 {
     let refused = capture::refused(file);
     if refused != 0 {
-        return turned_back(refused, old, new, states, numbers, picture, rows);
+        let chip = zeros();
+        return Played { chip, refused };
     }
     play_taken(file, answers, old, new, states, numbers, picture, rows)
 }

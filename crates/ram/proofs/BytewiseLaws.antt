@@ -1,8 +1,8 @@
--- Bits that are put one after the other into one byte of a plane are that byte stored once.
-use mathlib.Core.Path.{_≡_, sym, ap, _∙_}
+-- Bits that are put one after the other into one byte of a plane are that byte stored once, and whole bytes copied bit by bit are stored one after the other.
+use mathlib.Core.Path.{_≡_, refl, sym, ap, _∙_}
 use mathlib.Core.Bool.{true, _&&_}
 use mathlib.Core.List.{List}
-use Prim.Native.Nat.{ℕ, zero, suc, _+_, _%_, _<_, _≤_}
+use Prim.Native.Nat.{ℕ, zero, suc, _+_, _*_, _%_, _<_, _≤_}
 use native.Mathlib.Nat.{zero-add, add-assoc}
 use native.Mathlib.Omega.{arith}
 use native.Mathlib.Decide.{decLe}
@@ -11,15 +11,16 @@ use lib.ListN.{length, getD, set}
 use lib.Seq.{getD-set-same, set-set, set-out, set-getD}
 use borrow.Author.Tests.{eqb-true}
 use Rattle.base.specs.Turns.{turns}
-use Rattle.base.proofs.Turns.{turns-join, turns-same}
+use Rattle.base.proofs.Turns.{turns-join, turns-same, turns-keep}
 use Rattle.registers.specs.declared.Area.{Area}
 use Rattle.registers.specs.Area.{inside}
 use Rattle.ram.specs.Plane.{bitOf, withBit, place, bitAt, putBit, Bytes}
-use Rattle.ram.specs.Bytewise.{merge, wholeByte}
+use Rattle.ram.specs.Bytewise.{merge, wholeByte, copiedBytes}
 use Rattle.ram.specs.Write.{putInside, written}
 use Rattle.ram.specs.Copy.{copiedBits}
 use Rattle.ram.proofs.AreaLaws.{and-both, inside-between}
 use Rattle.ram.proofs.ByteLaws.{merge-whole}
+use Rattle.ram.proofs.PlaneLaws.{bytes-set}
 
 -- the byte and the bit of a column that lies in the same byte
 pub same-place : (x y i : ℕ) → x % 8 + i < 8 → place (x + i) y ≡ place x y
@@ -71,3 +72,19 @@ copied-join old new x y m n =
     turns-same n (λ i q. putBit q (x + m + i) y (bitAt new (x + m + i) y)) (λ i q. putBit q (x + (m + i)) y (bitAt new (x + (m + i)) y)) (copiedBits old new x y m)
     (λ i q l. rw (add-assoc x m i))
     ∙ turns-join m n (λ i q. putBit q (x + i) y (bitAt new (x + i) y)) old
+
+still-bytes : (old new : List ℕ) (at n : ℕ) → Bytes old → Bytes new → Bytes (copiedBytes old new at n)
+still-bytes old new at n h l = turns-keep Bytes n (λ i p. set p (at + i) (getD new (at + i) 0)) old (λ i p m s. bytes-set p (at + i) (getD new (at + i) 0) s (l (at + i))) h
+
+-- whole bytes copied bit by bit are copied byte by byte
+pub whole-copied : (old new : List ℕ) (x y n : ℕ) → x % 8 ≡ 0 → Bytes old → Bytes new → copiedBits old new x y (n * 8) ≡ copiedBytes old new (place x y) n
+whole-copied old new x y zero z h l = refl
+whole-copied old new x y (suc n) z h l =
+    let p = copiedBytes old new (place x y) n in
+    let at : place (x + n * 8) y ≡ place x y + n = omega arith in
+    let aligned : (x + n * 8) % 8 ≡ 0 = omega arith in
+    ap (copiedBits old new x y) {x = suc n * 8} {y = n * 8 + 8} (omega arith)
+    ∙ sym (copied-join old new x y (n * 8) 8)
+    ∙ ap (λ (q : List ℕ). copiedBits q new (x + n * 8) y 8) (whole-copied old new x y n z h l)
+    ∙ bits-copied p new (x + n * 8) y 8 (omega arith)
+    ∙ rw (at, aligned) (ap (set p (place x y + n)) (merge-whole (getD p (place x y + n) 0) (getD new (place x y + n) 0) (still-bytes old new (place x y) n h l (place x y + n)) (l (place x y + n))))

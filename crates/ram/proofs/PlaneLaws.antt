@@ -31,12 +31,15 @@ stored p i c P s h = elim (decLe (length p) i) [
   | no within ↦ rw (getD-set-same p i c 0 (omega arith)) s
 ]
 
+pub bytes-set : (p : List ℕ) (i c : ℕ) → Bytes p → c < 256 → Bytes (set p i c)
+bytes-set p i c h s j = elim (ℕ-discrete j i) [
+  | yes e ↦ rw e (stored p i c (λ (b : ℕ). b < 256) s (h i))
+  | no ne ↦ rw (getD-set-other p i j c 0 ne) (h j)
+]
+
 pub bytes-put : (p : List ℕ) (x y v : ℕ) → Bytes p → v < 2 → Bytes (putBit p x y v)
 unfolding putBit
-bytes-put p x y v h small i = elim (ℕ-discrete i (place x y)) [
-  | yes e ↦ rw e (stored p (place x y) _ (λ (b : ℕ). b < 256) (with-bit-byte (getD p (place x y) 0) (x % 8) v (h (place x y)) (mod-lt x (omega arith)) small) (h (place x y)))
-  | no ne ↦ rw (getD-set-other p (place x y) i _ 0 ne) (h i)
-]
+bytes-put p x y v h small = bytes-set p (place x y) _ h (with-bit-byte (getD p (place x y) 0) (x % 8) v (h (place x y)) (mod-lt x (omega arith)) small)
 
 pub bit-put-same : (p : List ℕ) (x y v : ℕ) → Bytes p → v < 2 → place x y < length p → bitAt (putBit p x y v) x y ≡ v
 unfolding bitAt putBit

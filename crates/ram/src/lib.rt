@@ -3,11 +3,11 @@
 // and 0 is read.
 ghost use mathlib.Core.Path.{_≡_};
 ghost use Prim.Native.Nat.{_+_, _-_, _%_, _<_, _≤_, min};
-ghost use lib.ListN.{getD, set};
+ghost use lib.ListN.{length, getD, set};
 ghost use Rattle.ram.specs.Plane.{place as placeOf, bitAt};
 ghost use Rattle.ram.specs.Found.{ramBit};
 ghost use Rattle.ram.specs.Write.{putInside, written, nextOf};
-ghost use Rattle.ram.specs.Bytewise.{wholeByte};
+ghost use Rattle.ram.specs.Bytewise.{wholeByte, copiedBytes};
 ghost use Rattle.ram.specs.Copy.{copiedBits, copiedRow, copied};
 
 mod byte;
@@ -26,6 +26,7 @@ const ROW_BYTES: usize = RAM_SOURCES as usize / 8;
 const LAST: u16 = 0xFFFF;
 
 // Where the next pixel byte goes.
+#[repr(C)]
 pub struct Cursor {
     pub x: u16,
     pub y: u16,
@@ -175,7 +176,38 @@ fn copy_byte(old: &mut [u8], new: &[u8], x: usize, y: usize, n: usize)
     store(old, at, b);
 }
 
-// The pixels of a row of the area, a byte at a time.
+// The n bytes from a place on, which both planes have.
+fn copy_bytes(old: &mut [u8], new: &[u8], at: usize, n: usize)
+    requires { ⌜ (at + n ≤ length (now old)) × (at + n ≤ length (now new)) ⌝ }
+    ensures { λ r. ⌜ now (old .exit) ≡ copiedBytes (now (old .entry)) (now (new .entry)) at n ⌝ }
+{
+    for i in 0..n {
+        old[at + i] = new[at + i];
+    }
+}
+
+// Some of the n pixels of a row from a place: all the whole bytes if the first begins there and
+// both planes have them, else those of one byte. Answers how many.
+fn copy_some(old: &mut [u8], new: &[u8], x: usize, y: usize, n: usize) -> usize
+    requires { ⌜ (x < 65536) × (y < 65536) × (0 < n) × (n ≤ 65536) ⌝ }
+    ensures { λ r. ⌜ (0 < r) × (r ≤ n) × (now (old .exit) ≡ copiedBits (now (old .entry)) (now (new .entry)) x y r) ⌝ }
+{
+    let bytes = n / 8;
+    if x % 8 == 0 {
+        if 0 < bytes {
+            let at = place(x, y);
+            if at + bytes <= least(old.len(), new.len()) {
+                copy_bytes(old, new, at, bytes);
+                return bytes * 8;
+            }
+        }
+    }
+    let bits = least(8 - x % 8, n);
+    copy_byte(old, new, x, y, bits);
+    bits
+}
+
+// The pixels of a row of the area.
 fn copy_row(old: &mut [u8], new: &[u8], area: Area, y: usize)
     requires { ⌜ y < 65536 ⌝ }
     ensures { λ r. ⌜ now (old .exit) ≡ copiedRow (now (old .entry)) (now (new .entry)) area y ⌝ }
@@ -183,9 +215,7 @@ fn copy_row(old: &mut [u8], new: &[u8], area: Area, y: usize)
     let columns = count(area.x0, area.x1);
     let mut done: usize = 0;
     while done < columns {
-        let x = area.x0 as usize + done;
-        let n = least(8 - x % 8, columns - done);
-        copy_byte(old, new, x, y, n);
+        let n = copy_some(old, new, area.x0 as usize + done, y, columns - done);
         done += n;
     }
 }

@@ -28,6 +28,7 @@ const LAST_COLUMN: u16 = RAM_SOURCES - 1;
 const LAST_ROW: u16 = RAM_GATES - 1;
 
 // A rectangle of RAM, in pixels, its ends included.
+#[repr(C)]
 pub struct Area {
     pub x0: u16,
     pub y0: u16,
@@ -53,12 +54,14 @@ impl Area {
 }
 
 // Horizontal and vertical.
+#[repr(C)]
 pub struct Pair {
     pub h: u16,
     pub v: u16,
 }
 
 // The registers but for the LUTs, which stand beside them: these are copied often.
+#[repr(C)]
 pub struct Registers {
     pub psr: [u8; 2],
     pub power: [u8; 5],

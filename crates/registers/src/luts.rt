@@ -10,10 +10,12 @@ use config::LUT_BYTES;
 const TABLES: usize = 5;
 
 // The bytes of one LUT that the model reads.
+#[repr(C)]
 pub struct Lut {
     pub bytes: [u8; LUT_BYTES],
 }
 
+#[repr(C)]
 pub struct Luts {
     pub luts: [Lut; TABLES],
 }

@@ -15,6 +15,7 @@ mod resets;
 mod telling;
 
 pub use making::power_on;
+pub use making::zeros;
 pub use questions::Bit;
 pub use questions::Busy;
 pub use questions::Deadline;

@@ -137,8 +137,8 @@ fn no_config() -> Uc8253Config
     }
 }
 
-// A record of zeros.
-fn zeros() -> Uc8253
+// A record of zeros: what a refused making gives back.
+pub fn zeros() -> Uc8253
     ensures { λ r. ⌜ r ≡ calls.zeros ⌝ }
 {
     let resolution = Pair { h: 0, v: 0 };

@@ -37,6 +37,7 @@ pub const LUT_KK: u8 = 4;
 const TAIL_FRAMES: u64 = 2;
 
 // The supply levels that a LUT selects, in millivolts; VDL lies below zero, and this is how far.
+#[repr(C)]
 pub struct Levels {
     pub vdh: u16,
     pub vdl: u16,
@@ -64,6 +65,7 @@ impl Levels {
 }
 
 // One group of a LUT.
+#[repr(C)]
 pub struct Group {
     // The level selects of phases A to D.
     pub codes: [u8; 4],
@@ -73,12 +75,14 @@ pub struct Group {
 }
 
 // A LUT decoded.
+#[repr(C)]
 pub struct Table {
     pub groups: [Group; 7],
 }
 
 // The five LUTs as a refresh reads them, with the supplies and the frame period: table 0 drives
 // VCOM, 1 to 4 the pixels by their old and new bits.
+#[repr(C)]
 pub struct Waveform {
     pub tables: [Table; 5],
     pub levels: Levels,

@@ -1,14 +1,15 @@
 -- `events::run` meets its contract. The invariant: after i events the world, the answers and the refusal are what the definition has after i. The measure is the events left.
-use mathlib.Core.Path.{_≡_, ap, _∙_}
-use Prim.Native.Nat.{ℕ, _-_, _≤_}
-use borrow.Author.Needs.{needs}
-use native.Mathlib.Omega.{arith}
-use mathlib.Core.List.{List}
-use lib.ListN.{length}
-use Rattle.controller.specs.World.{world, buffers}
-use Rattle.events.specs.Events.{eventsIn, ranTo, answersTo, refusedIn}
+use Rattle.events.proofs.SomeLaws.{going-on}
+use Rattle.events.proofs.Going.{Going, SameLengths, going-first, lengths-first, lengths-more}
 use Rattle.events.proofs.RunLaws.{answers-length}
-use Rattle.events.proofs.Going.{Going, SameLengths, going-first, lengths-first, lengths-more, going-more}
+use Rattle.events.specs.Events.{eventsIn, ranTo, answersTo, refusedIn}
+use Rattle.controller.specs.World.{world, buffers}
+use lib.ListN.{length}
+use native.Mathlib.Omega.{arith}
+use borrow.Author.Needs.{needs}
+use Prim.Native.Nat.{ℕ, _-_, _≤_}
+use mathlib.Core.List.{List}
+use mathlib.Core.Path.{_≡_, ap, _∙_}
 use Rattle.events.proofs.run.Statement.{statement}
 use Rattle.events.proofs.run.Tie as tie
 
@@ -25,41 +26,20 @@ abbrev μ-loop : tie.MeasureT-loop
 loop-holds : tie.Need-loop-holds Inv-loop μ-loop
 loop-holds c = (going-first _ _ _, lengths-first _, omega arith)
 
-event-at-requires : tie.Need-event-at-requires Inv-loop μ-loop
-event-at-requires c κs = search needs
-
-step-requires : tie.Need-step-requires Inv-loop μ-loop
-step-requires c κs = search needs
+next-events-requires : tie.Need-next-events-requires Inv-loop μ-loop
+next-events-requires c κs = c .before .before .before .before .before .before .before .loop-test .taken
 
 earlier-requires : tie.Need-earlier-requires Inv-loop μ-loop
 earlier-requires c κs = search needs
 
-put-requires : tie.Need-put-requires Inv-loop μ-loop
-put-requires c κs = search needs
-
 add-i : tie.Need-add-i Inv-loop μ-loop
-add-i c = omega (arith, c .before .before .before .before .before .before .before .before .before .before .before .before .before .before .before .before .before .before .before .before .before .before .before .before .before .loop-test .taken, c .before .before .before .before .before .before .before .before .before .before .before .before .before .before .before .before .before .before .before .before .before .before .before .before .before .before .before .before .before .before .before .before .before .before .good .1 .0 .0)
+add-i c = omega (arith, c .before .before .before .before .before .before .before .before .before .before .before .before .before .before .before .before .next-events .ensures .within, c .before .before .before .before .before .before .before .before .before .before .before .before .before .before .before .before .before .before .before .before .before .before .before .before .before .before .before .before .before .before .before .before .before .good .1 .0 .0)
 
 loop-less : tie.Need-loop-less Inv-loop μ-loop
-loop-less c = omega (arith, c .before .before .before .before .before .before .before .before .before .before .before .before .before .before .before .before .before .before .before .before .before .before .before .before .before .loop-test .taken)
+loop-less c = omega (arith, c .before .before .before .before .before .before .before .before .before .before .before .before .before .before .before .before .next-events .ensures .some, c .before .before .before .before .before .before .before .before .before .before .before .before .before .before .before .before .next-events .ensures .within)
 
 loop-again : tie.Need-loop-again Inv-loop μ-loop
-loop-again c =
-    let at = c .before .before .before .before .before .before .before .before .before .before .before .before .before .before .before .before .before in
-    let g = at .before .before .before .before .before .before .before .before .before .loop in
-    let s = at .step in (
-      going-more (g .inv .0) (c .before .before .before .before .before .before .before .before .before .before .before .before .before .before .before .before .before .before .before .before .before .before .before .before .event-at .ensures) (s .ensures .0) (s .ensures .1 .0) (s .ensures .1 .1) (c .before .before .put .ensures) (c .before .before .before .before .earlier .ensures),
-      lengths-more (g .inv .1)
-          (record {
-            old-long = s .kept .1 .1 .0;
-            new-long = s .kept .1 .1 .1 .0;
-            states-long = s .kept .1 .1 .1 .1 .0;
-            numbers-long = s .kept .1 .1 .1 .1 .1 .0;
-            picture-long = s .kept .1 .1 .1 .1 .1 .1 .0;
-            rows-long = s .kept .1 .1 .1 .1 .1 .1 .1 .0;
-          }),
-      omega (arith, c .before .before .before .before .before .before .before .before .before .before .before .before .before .before .before .before .before .before .before .before .before .before .before .before .before .loop-test .taken),
-    )
+loop-again c = let g = c .before .before .before .before .before .before .before .before .before .before .before .before .before .before .before .before .before .before .before .before .before .before .before .before .before .loop in let s = c .before .before .before .before .before .before .before .before .before .before .before .before .before .before .before .before .next-events in (going-on (g .inv .0) (s .ensures) (c .before .earlier .ensures), lengths-more (g .inv .1) (record { old-long = s .kept .1 .1 .1 .1 .0; new-long = s .kept .1 .1 .1 .1 .1 .0; states-long = s .kept .1 .1 .1 .1 .1 .1 .0; numbers-long = s .kept .1 .1 .1 .1 .1 .1 .1 .0; picture-long = s .kept .1 .1 .1 .1 .1 .1 .1 .1 .0; rows-long = s .kept .1 .1 .1 .1 .1 .1 .1 .1 .1 .0 }), omega (arith, s .ensures .within))
 
 same-length : tie.Need-same-length Inv-loop μ-loop
 same-length c = ap (λ (l : List ℕ). length l) (c .before .loop .inv .0 .gave) ∙ answers-length _ _ _ _
@@ -83,17 +63,7 @@ same-length-7 : tie.Need-same-length-7 Inv-loop μ-loop
 same-length-7 c = c .before .loop .inv .1 .rows-long
 
 returns : tie.Need-returns Inv-loop μ-loop
-returns c =
-    let l = c .before .loop in
-    let a = c .before .before .before .before .before .before .before .before .before .args in
-    let w = world (a .p) (buffers (a .old .now) (a .new .now) (a .states .now) (a .numbers .now) (a .picture .now) (a .rows .now)) in
-    let e : l .i ≡ eventsIn (a .events .now) = omega arith in (
-      l .inv .0 .is ∙ ap (λ (n : ℕ). ranTo (a .events .now) n w) e,
-      (
-        l .inv .0 .gave ∙ ap (λ (n : ℕ). answersTo (a .events .now) n w (a .answers .now)) e,
-        l .inv .0 .turned ∙ ap (λ (n : ℕ). refusedIn (a .events .now) n w) e,
-      ),
-    )
+returns c = let l = c .before .loop in let a = c .before .before .before .before .before .before .before .before .before .args in let w = world (a .p) (buffers (a .old .now) (a .new .now) (a .states .now) (a .numbers .now) (a .picture .now) (a .rows .now)) in let e : l .i ≡ eventsIn (a .events .now) = omega (arith, l .inv .2, c .loop-test .left) in (l .inv .0 .is ∙ ap (λ (n : ℕ). ranTo (a .events .now) n w) e, (l .inv .0 .gave ∙ ap (λ (n : ℕ). answersTo (a .events .now) n w (a .answers .now)) e, l .inv .0 .turned ∙ ap (λ (n : ℕ). refusedIn (a .events .now) n w) e))
 
 pub run-spec : {M : Type 1} → statement M
 run-spec =
@@ -102,10 +72,8 @@ run-spec =
     Inv-loop
     μ-loop
     loop-holds
-    event-at-requires
-    step-requires
+    next-events-requires
     earlier-requires
-    put-requires
     add-i
     loop-less
     loop-again

@@ -21,36 +21,30 @@ count-requires c κs = search needs
 loop-holds : tie.Need-loop-holds Inv-loop μ-loop
 loop-holds c = (refl, omega arith, refl)
 
-cast-x : tie.Need-cast-x Inv-loop μ-loop
-cast-x c = omega arith
+cast-copy-some : tie.Need-cast-copy-some Inv-loop μ-loop
+cast-copy-some c = search needs
 
-add-x : tie.Need-add-x Inv-loop μ-loop
-add-x c = omega arith
+add-copy-some : tie.Need-add-copy-some Inv-loop μ-loop
+add-copy-some c = search needs
 
-sub-least : tie.Need-sub-least Inv-loop μ-loop
-sub-least c = omega arith
+sub-copy-some : tie.Need-sub-copy-some Inv-loop μ-loop
+sub-copy-some c = search needs
 
-sub-least-2 : tie.Need-sub-least-2 Inv-loop μ-loop
-sub-least-2 c = omega arith
-
-least-requires : tie.Need-least-requires Inv-loop μ-loop
-least-requires c κs = search needs
-
-copy-byte-requires : tie.Need-copy-byte-requires Inv-loop μ-loop
-copy-byte-requires c κs = omega arith
+copy-some-requires : tie.Need-copy-some-requires Inv-loop μ-loop
+copy-some-requires c κs = search needs
 
 add-done : tie.Need-add-done Inv-loop μ-loop
-add-done c = omega arith
+add-done c = search needs
 
 loop-less : tie.Need-loop-less Inv-loop μ-loop
-loop-less c = omega arith
+loop-less c = search needs
 
 loop-again : tie.Need-loop-again Inv-loop μ-loop
 loop-again c =
     let w = c .before .before in
-    let l = w .before .before .before .before .before .loop in
-    let a = w .before .before .before .before .before .before .before .before .before .args in
-    (rw (w .copy-byte .ensures, l .inv .0) (copied-join (a .old .now) (a .new .now) (a .area .x0) (a .y) (l .done) (w .before .before .least .result)), omega arith, w .copy-byte .kept .0 ∙ l .inv .2)
+    let l = w .before .before .before .before .loop in
+    let a = w .before .before .before .before .before .before .before .before .args in
+    (w .copy-some .ensures .2 ∙ rw (l .inv .0) (copied-join (a .old .now) (a .new .now) (a .area .x0) (a .y) (l .done) (w .copy-some .result)), omega arith, w .copy-some .kept .0 ∙ l .inv .2)
 
 same-length : tie.Need-same-length Inv-loop μ-loop
 same-length c = c .before .loop .inv .2
@@ -70,12 +64,10 @@ copy-row-spec =
     μ-loop
     count-requires
     loop-holds
-    cast-x
-    add-x
-    sub-least
-    sub-least-2
-    least-requires
-    copy-byte-requires
+    cast-copy-some
+    add-copy-some
+    sub-copy-some
+    copy-some-requires
     add-done
     loop-less
     loop-again

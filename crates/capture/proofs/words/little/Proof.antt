@@ -1,11 +1,11 @@
--- `capture::numbers::little` meets its contract: n is held to 8.
+-- `capture::words::little` meets its contract: n is held to 8.
 use mathlib.Core.Path.{_≡_, ap, _∙_}
 use Prim.Native.Nat.{min}
 use native.Mathlib.Omega.{arith}
 use Rattle.capture.specs.Little.{little}
 use borrow.Author.Needs.{needs}
-use Rattle.capture.proofs.numbers.little.Statement.{statement}
-use Rattle.capture.proofs.numbers.little.Tie as tie
+use Rattle.capture.proofs.words.little.Statement.{statement}
+use Rattle.capture.proofs.words.little.Tie as tie
 
 number-requires : tie.Need-number-requires
 number-requires c κs = search needs

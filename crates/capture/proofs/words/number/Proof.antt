@@ -1,4 +1,4 @@
--- `capture::numbers::number` meets its contract. The invariant: the value is the number of the bytes from place at + k on, and it is below 256 to their count. The measure is k.
+-- `capture::words::number` meets its contract. The invariant: the value is the number of the bytes from place at + k on, and it is below 256 to their count. The measure is k.
 use mathlib.Core.Path.{_≡_, ap, subst, _∙_}
 use Prim.Native.Nat.{ℕ, _+_, _-_, _*_, _^_, _≤_, _<_}
 use borrow.Author.Needs.{needs}
@@ -6,8 +6,8 @@ use native.Mathlib.Omega.{arith}
 use lib.ListN.{getD}
 use Rattle.capture.specs.Little.{little}
 use Rattle.capture.proofs.LittleLaws.{none-yet, little-more, more-below, word-fits}
-use Rattle.capture.proofs.numbers.number.Statement.{statement}
-use Rattle.capture.proofs.numbers.number.Tie as tie
+use Rattle.capture.proofs.words.number.Statement.{statement}
+use Rattle.capture.proofs.words.number.Tie as tie
 
 abbrev Inv-loop : tie.InvT-loop
 Inv-loop bytes at n value₀ k₀ value k = (value ≡ little bytes (at + k) (n - k)) × (value < 256 ^ (n - k)) × (k ≤ n)

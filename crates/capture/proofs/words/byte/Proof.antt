@@ -1,10 +1,10 @@
--- `capture::numbers::byte` meets its contract: past the end, 0.
+-- `capture::words::byte` meets its contract: past the end, 0.
 use mathlib.Core.Path.{sym}
 use borrow.Author.Needs.{needs}
 use native.Mathlib.Omega.{arith}
 use Rattle.base.proofs.Lists.{getD-past}
-use Rattle.capture.proofs.numbers.byte.Statement.{statement}
-use Rattle.capture.proofs.numbers.byte.Tie as tie
+use Rattle.capture.proofs.words.byte.Statement.{statement}
+use Rattle.capture.proofs.words.byte.Tie as tie
 
 returns : tie.Need-returns
 returns c =

@@ -1,0 +1,20 @@
+-- `events::streams::on_from` meets its contract, by its test.
+use Rattle.events.specs.Stretch.{onFrom}
+use borrow.Author.Tests.{lt-ltb, le-ltb}
+use borrow.Author.Needs.{needs}
+use Rattle.events.proofs.streams.on_from.Statement.{statement}
+use Rattle.events.proofs.streams.on_from.Tie as tie
+
+returns : tie.Need-returns
+unfolding onFrom
+returns c = simp (lt-ltb _ _ (c .if1 .taken))
+
+next-requires : tie.Need-next-requires
+next-requires c κs = search needs
+
+returns-2 : tie.Need-returns-2
+unfolding onFrom
+returns-2 c = simp (c .next .ensures, le-ltb _ _ (c .before .if1 .left))
+
+pub on-from-spec : {M : Type 1} → statement M
+on-from-spec = tie.close (tie.spec returns next-requires returns-2)

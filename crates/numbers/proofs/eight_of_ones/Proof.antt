@@ -1,0 +1,99 @@
+-- `numbers::eight_of_ones` meets its contract. After k turns the first k entries are written.
+use borrow.Author.Needs.{needs}
+use mathlib.Core.Path.{_≡_, refl, ap, _∙_}
+use Prim.Native.Nat.{ℕ, _+_, _-_, _≤_}
+use native.Mathlib.Omega.{arith}
+use lib.ListN.{length, set, length-set}
+use Rattle.numbers.specs.Filled.{filled}
+use Rattle.numbers.specs.Row.{numberOfBit}
+use Rattle.numbers.proofs.FilledLaws.{filled-more}
+use Rattle.numbers.proofs.BitLaws.{number-of-ones}
+use Rattle.numbers.proofs.eight_of_ones.Statement.{statement}
+use Rattle.numbers.proofs.eight_of_ones.Tie as tie
+
+abbrev Inv-loop : tie.InvT-loop
+Inv-loop numbers₀ at old new k₀ numbers k = (numbers ≡ filled (numberOfBit old new 1) at k numbers₀) × (k ≤ 8) × (length numbers ≡ length numbers₀)
+
+abbrev μ-loop : tie.MeasureT-loop
+μ-loop numbers₀ at old new k₀ numbers k = 8 - k
+
+loop-holds : tie.Need-loop-holds Inv-loop μ-loop
+loop-holds c = (refl, omega arith, refl)
+
+sub-o : tie.Need-sub-o Inv-loop μ-loop
+sub-o c = search needs
+
+cast-o : tie.Need-cast-o Inv-loop μ-loop
+cast-o c = search needs
+
+shr-o : tie.Need-shr-o Inv-loop μ-loop
+shr-o c = search needs
+
+sub-n : tie.Need-sub-n Inv-loop μ-loop
+sub-n c = search needs
+
+cast-n : tie.Need-cast-n Inv-loop μ-loop
+cast-n c = search needs
+
+shr-n : tie.Need-shr-n Inv-loop μ-loop
+shr-n c = search needs
+
+sub-numbers : tie.Need-sub-numbers Inv-loop μ-loop
+sub-numbers c = search needs
+
+sub-numbers-2 : tie.Need-sub-numbers-2 Inv-loop μ-loop
+sub-numbers-2 c = search needs
+
+sub-numbers-3 : tie.Need-sub-numbers-3 Inv-loop μ-loop
+sub-numbers-3 c = search needs
+
+add-numbers : tie.Need-add-numbers Inv-loop μ-loop
+add-numbers c = search needs
+
+slice-write-numbers : tie.Need-slice-write-numbers Inv-loop μ-loop
+slice-write-numbers c = search needs
+
+add-k : tie.Need-add-k Inv-loop μ-loop
+add-k c = search needs
+
+loop-less : tie.Need-loop-less Inv-loop μ-loop
+loop-less c = search needs
+
+loop-again : tie.Need-loop-again Inv-loop μ-loop
+loop-again c =
+    let l = c .before .loop in
+    let s = c .before .before .args in
+    ((λ i. set (l .inv .0 i) (s .at + l .k) (number-of-ones (s .old) (s .new) (l .k) i)) ∙ filled-more (numberOfBit (s .old) (s .new) 1) (s .at) (l .k) (s .numbers .now), omega arith, length-set (l .numbers) (s .at + l .k) _ ∙ l .inv .2)
+
+same-length : tie.Need-same-length Inv-loop μ-loop
+same-length c = c .before .loop .inv .2
+
+returns : tie.Need-returns Inv-loop μ-loop
+returns c =
+    let l = c .before .loop in
+    let s = c .before .before .args in
+    l .inv .0 ∙ ap (λ (n : ℕ). filled (numberOfBit (s .old) (s .new) 1) (s .at) n (s .numbers .now)) {x = l .k} {y = 8} (omega arith)
+
+pub eight-of-ones-spec : {M : Type 1} → statement M
+eight-of-ones-spec =
+    tie.close
+    (tie.spec
+    Inv-loop
+    μ-loop
+    loop-holds
+    sub-o
+    cast-o
+    shr-o
+    sub-n
+    cast-n
+    shr-n
+    sub-numbers
+    sub-numbers-2
+    sub-numbers-3
+    add-numbers
+    slice-write-numbers
+    add-k
+    loop-less
+    loop-again
+    same-length
+    returns)
