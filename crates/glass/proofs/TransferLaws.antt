@@ -42,7 +42,7 @@ far-up c hi x k h = omega arith
 far-down : (c x k : ℕ) → x ≤ c → x - min k c ≡ x - k
 far-down c x k h = omega arith
 
-held-move : (c lo hi x u d : ℕ) → hi ≤ c → x ≤ c → max lo (min (x + min (u - d) c - min (d - u) c) hi) ≡ max lo (min (x + u - d) hi)
+pub held-move : (c lo hi x u d : ℕ) → hi ≤ c → x ≤ c → max lo (min (x + min (u - d) c - min (d - u) c) hi) ≡ max lo (min (x + u - d) hi)
 held-move c lo hi x u d h k = elim (decLe d u) [
   | yes l ↦
       ap (λ (v : ℕ). max lo (min v hi)) {y = x + min (u - d) c} (omega arith)

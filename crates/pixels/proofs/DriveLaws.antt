@@ -47,7 +47,7 @@ pick-both : {A B : Type 0} (P : A → B → Type 0) (t : Bool) (a b : A) (a′ b
 pick-both P true a b a′ b′ p q = p
 pick-both P false a b a′ b′ p q = q
 
-number-both : {A B : Type 0} (P : A → B → Type 0) (a b c d e : A) (a′ b′ c′ d′ e′ : B) (n : ℕ) →
+pub number-both : {A B : Type 0} (P : A → B → Type 0) (a b c d e : A) (a′ b′ c′ d′ e′ : B) (n : ℕ) →
     P a a′ → P b b′ → P c c′ → P d d′ → P e e′ → P (byNumber a b c d e n) (byNumber a′ b′ c′ d′ e′ n)
 unfolding byNumber
 number-both P a b c d e a′ b′ c′ d′ e′ n p q r s t =

@@ -1,6 +1,6 @@
 -- What loops over buffers leave: filled from the front, changed by what stands beside, tested entry by entry.
-use mathlib.Core.Path.{_≡_, refl, ap, _∙_}
-use mathlib.Core.Bool.{Bool, true, false}
+use mathlib.Core.Path.{_≡_, refl, sym, ap, _∙_}
+use mathlib.Core.Bool.{Bool, true, false, _&&_}
 use mathlib.Core.List.{List, [], _∷_, _++_, append-nil}
 use Prim.Native.Nat.{ℕ, zero, suc, _+_, _≤_, _<_, min}
 use native.Mathlib.Nat.{not-suc-le-zero, le-of-suc-le-suc}
@@ -109,16 +109,25 @@ both true b e = (refl, e)
 both false true e = (e, refl)
 both false false e = (e, e)
 
+also : (a b c : Bool) → pick (a && b) c false ≡ pick a (pick b c false) false
+also true b c = refl
+also false b c = refl
+
+alone : (a : Bool) → a ≡ pick a true false
+alone true = refl
+alone false = refl
+
 module _ {A : Type 0} (p : A → Bool) where
-  -- a loop that looks at entry i: what is left decides
-  pub every-yes : (l : List A) (i : ℕ) (d : A) → i < length l → p (getD l i d) ≡ true → every p (drop i l) ≡ every p (drop (i + 1) l)
-  every-yes l i d h e = rw (drop-cons l i d h, add-one i, e)
+  -- a loop that looks at each entry: whether those before entry i passed, and what is left, decide
+  pub every-more : (l : List A) (i : ℕ) (d : A) (a b : Bool) → i < length l → b ≡ p (getD l i d) →
+      pick a (every p (drop i l)) false ≡ every p l → pick (a && b) (every p (drop (i + 1) l)) false ≡ every p l
+  every-more l i d a b h e q = also a b (every p (drop (i + 1) l)) ∙ ap (λ (t : Bool). pick a t false) next ∙ q
+    where
+      next : pick b (every p (drop (i + 1) l)) false ≡ every p (drop i l)
+      next = rw (e, add-one i, drop-cons l i d h)
 
-  pub every-no : (l : List A) (i : ℕ) (d : A) → i < length l → p (getD l i d) ≡ false → every p (drop i l) ≡ false
-  every-no l i d h e = rw (drop-cons l i d h, e)
-
-  pub every-done : (l : List A) (i : ℕ) → length l ≤ i → every p (drop i l) ≡ true
-  every-done l i h = rw (drop-of-length-le l h)
+  pub every-done : (l : List A) (i : ℕ) (a : Bool) → length l ≤ i → pick a (every p (drop i l)) false ≡ every p l → a ≡ every p l
+  every-done l i a h q = alone a ∙ ap (λ (t : List A). pick a (every p t) false) (sym (drop-of-length-le l h)) ∙ q
 
   -- where all pass each does, and the other way round
   pub every-at : (l : List A) → every p l ≡ true → (i : ℕ) → i < length l → (d : A) → p (getD l i d) ≡ true

@@ -4,12 +4,7 @@ use Prim.Native.Nat.{ℕ}
 use lib.IntN.{ℤ}
 use Rattle.base.specs.Integer.{up}
 use Rattle.glass.specs.Gray.{grayOf}
-use Rattle.pixels.specs.declared.Shade.{Shade}
 use Rattle.pixels.specs.Lists.{beside}
-
--- a state beside its grey; what lies below 0 counts as 0
-abbrev pub shadeOf : ℕ → ℤ → Shade
-shadeOf s z = record { state = z; gray = grayOf (up z) s }
 
 -- each entry of the picture becomes the grey of its state; an entry with no state stays
 abbrev pub drawn : ℕ → List ℤ → List ℕ → List ℕ

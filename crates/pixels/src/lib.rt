@@ -1,18 +1,30 @@
 // The glass over lent buffers (mod.rs: new, finish): the states, the table numbers and the picture,
 // an entry for each pixel.
 ghost use mathlib.Core.Path.{_≡_};
-ghost use Prim.Native.Nat.{min};
+ghost use Prim.Native.Nat.{_*_, _≤_, min};
+ghost use lib.Dec.{ltb};
 ghost use lib.ListN.{length, replicate};
 ghost use Rattle.base.specs.Integer.{up};
+ghost use Rattle.base.specs.Pick.{pick};
+ghost use Rattle.glass.specs.Gray.{grayOf};
 ghost use Rattle.pixels.specs.States.{heldOf, isState, everyState, isNumber, everyNumber};
-ghost use Rattle.pixels.specs.Drive.{movedOnce, movedBy, driven};
-ghost use Rattle.pixels.specs.Draw.{shadeOf, drawn};
+ghost use Rattle.pixels.specs.Drive.{driven};
+ghost use Rattle.pixels.specs.Ready.{readyOf, Bounded, movedReady, slotOf};
+ghost use Rattle.pixels.specs.Draw.{drawn};
+ghost use Rattle.pixels.specs.Guess.{thresholdOf, Thresholds, white, Scaled};
+use base::greatest;
 use base::least;
+use base::saturating_add;
+use base::saturating_mul;
+use base::saturating_sub;
 use glass::Transfer;
 use glass::gray;
 
 // The largest state that an i64 holds: 2^63 - 1.
 const MOST: u64 = 0x7FFF_FFFF_FFFF_FFFF;
+
+// A move that takes every state past every other: 2^63.
+const PAST: u64 = 0x8000_0000_0000_0000;
 
 // The table numbers of a pixel: white stays white, black to white, white to black, black stays
 // black, and no table.
@@ -25,6 +37,11 @@ const WK: u8 = 3;
 const KK: u8 = 4;
 
 const UNDRIVEN: u8 = 255;
+
+// A guessed grey is counted in units of 2^-54: 2^54 of them, and 255 times as many.
+const UNIT: u64 = 0x40_0000_0000_0000;
+
+const WHITE: u64 = 0x3FC0_0000_0000_0000;
 
 // How far a state lies above zero.
 fn above(z: i64) -> u64
@@ -80,28 +97,63 @@ pub fn fill_words(words: &mut [u64])
     }
 }
 
-// A state, moved by a transfer.
-fn moved_once(t: Transfer, z: i64) -> i64
-    ensures { λ r. ⌜ r ≡ movedOnce t z ⌝ }
-{
-    held(t.apply(above(z)))
+// A transfer made ready for states up to 2^63 - 1: `add` is added to a state, the sum is held to
+// low ..= high, and `take` is taken from it. One of add and take is 0, and the ends are raised by
+// take, so no sign is tested.
+struct Ready {
+    add: u64,
+    take: u64,
+    low: u64,
+    high: u64,
 }
 
-// A state, moved by the transfer of its table number.
-fn moved(number: u8, z: i64, ww: Transfer, kw: Transfer, wk: Transfer, kk: Transfer) -> i64
-    ensures { λ r. ⌜ r ≡ movedBy ww kw wk kk number z ⌝ }
-{
-    match number {
-        WW => moved_once(ww, z),
-        KW => moved_once(kw, z),
-        WK => moved_once(wk, z),
-        KK => moved_once(kk, z),
-        _ => z,
+impl Ready {
+    fn new(t: Transfer) -> Ready
+        ensures { λ r. ⌜ r ≡ readyOf t ⌝ }
+    {
+        let add = least(saturating_sub(t.up, t.down), PAST);
+        let take = least(saturating_sub(t.down, t.up), PAST);
+        let lo = least(t.lo, MOST);
+        let hi = least(t.hi, MOST);
+        Ready {
+            add,
+            take,
+            low: lo + take,
+            high: hi + take,
+        }
+    }
+
+    // The state that a state becomes.
+    fn apply(self, z: i64) -> i64
+        requires { ⌜ Bounded self ⌝ }
+        ensures { λ r. ⌜ r ≡ movedReady self z ⌝ }
+    {
+        (greatest(self.low, least(above(z) + self.add, self.high)) - self.take) as i64
     }
 }
 
+// Where a table number's transfer stands among the four; past them where it has none.
+fn slot(number: u8) -> usize
+    ensures { λ r. ⌜ r ≡ slotOf number ⌝ }
+{
+    if number == 0 {
+        return 4;
+    }
+    if number <= KK {
+        return number as usize - 1;
+    }
+    4
+}
+
+// The state y that a move gives, where the slot is a transfer's, else the state z as it was.
+fn if_driven(slot: usize, y: i64, z: i64) -> i64
+    ensures { λ r. ⌜ r ≡ pick (ltb slot 4) y z ⌝ }
+{
+    if slot < 4 { y } else { z }
+}
+
 // Every state moves by the transfer of its table number. Another number leaves it, and so does a
-// missing one.
+// missing one. Numbers come in no order, so a pixel's transfer is looked up, with no branch.
 pub fn drive(
     states: &mut [i64],
     numbers: &[u8],
@@ -113,33 +165,94 @@ pub fn drive(
     ensures { λ _. ⌜ now (states .exit) ≡ driven ww kw wk kk (now (numbers .entry)) (now (states .entry)) ⌝ }
 {
     let n = shorter(states.len(), numbers.len());
+    let ts = [Ready::new(ww), Ready::new(kw), Ready::new(wk), Ready::new(kk), Ready::new(kk)];
     let mut i: usize = 0;
     while i < n {
         let z = states[i];
-        let y = moved(numbers[i], z, ww, kw, wk, kk);
+        let k = slot(numbers[i]);
+        let t = ts[k];
+        let y = if_driven(k, t.apply(z), z);
         states[i] = y;
         i += 1;
     }
 }
 
-// A state and its grey.
-struct Shade {
-    state: i64,
-    gray: u8,
+// The least state of grey q or a lighter one, by split quotients, held to 64 bits.
+fn threshold(q: u64, swing: u64) -> u64
+    requires { ⌜ q ≤ 256 ⌝ }
+    ensures { λ r. ⌜ r ≡ thresholdOf q swing ⌝ }
+{
+    let m = saturating_sub(2 * q, 1);
+    saturating_add(saturating_mul(m, swing / 510), (m * (swing % 510) + 509) / 510)
 }
 
-// The grey of a state: neighbours often share a state, so the last one is kept.
-fn shaded(kept: Shade, z: i64, swing: u64) -> Shade
-    requires { ⌜ kept ≡ shadeOf swing (kept .state) ⌝ }
-    ensures { λ r. ⌜ r ≡ shadeOf swing z ⌝ }
+// The thresholds of the greys, and of the one past white.
+fn thresholds(swing: u64) -> [u64; 257]
+    ensures { λ r. ⌜ Thresholds swing r 257 ⌝ }
 {
-    if z == kept.state {
-        return kept;
+    let mut from = [0u64; 257];
+    let mut q: usize = 0;
+    while q < 257 {
+        from[q] = threshold(q as u64, swing);
+        q += 1;
     }
-    Shade {
-        state: z,
-        gray: gray(above(z), swing),
+    from
+}
+
+// How a grey is guessed: the leading bits of the state, at most `most`, times the factor are the
+// grey in units of 2^-54.
+struct Scale {
+    shift: u32,
+    most: u64,
+    factor: u64,
+}
+
+// The bits that a number has past 32.
+fn excess(x: u64) -> u32
+    ensures { λ r. ⌜ r ≤ 32 ⌝ }
+{
+    let zeros = u64::leading_zeros(x);
+    if zeros < 32 { 32 - zeros } else { 0 }
+}
+
+// White, 255, in units of 2^-54, divided by the number that stands for it.
+fn factor(most: u64) -> u64
+    ensures { λ r. ⌜ most * r ≤ white ⌝ }
+{
+    if most == 0 { 0 } else { WHITE / most }
+}
+
+impl Scale {
+    fn new(swing: u64) -> Scale
+        ensures { λ r. ⌜ Scaled r ⌝ }
+    {
+        let shift = excess(swing);
+        let most = swing >> shift;
+        let factor = factor(most);
+        Scale {
+            shift,
+            most,
+            factor,
+        }
     }
+}
+
+// The grey of a state. It is guessed by a multiplication, the thresholds tell whether the guess is
+// right, and only where it is not the grey is divided for.
+fn shade(x: u64, swing: u64, scale: Scale, from: &[u64]) -> u8
+    requires { ⌜ Scaled scale × Thresholds swing (now from) 257 ⌝ }
+    ensures { λ r. ⌜ r ≡ grayOf x swing ⌝ }
+{
+    let a = x >> scale.shift;
+    if a <= scale.most {
+        let q = ((a * scale.factor + UNIT / 2) / UNIT) as usize;
+        if from[q] <= x {
+            if x < from[q + 1] {
+                return q as u8;
+            }
+        }
+    }
+    gray(x, swing)
 }
 
 // The picture of the states; entries past the shorter of the two stay.
@@ -147,15 +260,13 @@ pub fn draw(picture: &mut [u8], states: &[i64], swing: u64)
     ensures { λ _. ⌜ now (picture .exit) ≡ drawn swing (now (states .entry)) (now (picture .entry)) ⌝ }
 {
     let n = shorter(picture.len(), states.len());
-    let mut kept = Shade {
-        state: 0,
-        gray: gray(0, swing),
-    };
+    let from = thresholds(swing);
+    let scale = Scale::new(swing);
     let mut i: usize = 0;
     while i < n {
         let z = states[i];
-        kept = shaded(kept, z, swing);
-        picture[i] = kept.gray;
+        let x = above(z);
+        picture[i] = shade(x, swing, scale, &from);
         i += 1;
     }
 }
@@ -171,15 +282,14 @@ fn is_state(z: i64, swing: u64) -> bool
 pub fn all_states(states: &[i64], swing: u64) -> bool
     ensures { λ r. ⌜ r ≡ everyState swing (now (states .entry)) ⌝ }
 {
+    let mut all = true;
     let mut i = 0;
     while i < states.len() {
         let z = states[i];
-        if !is_state(z, swing) {
-            return false;
-        }
+        all = all & is_state(z, swing);
         i += 1;
     }
-    true
+    all
 }
 
 // Whether a byte is a table number or stands for none.
@@ -196,12 +306,11 @@ fn is_number(n: u8) -> bool
 pub fn all_numbers(numbers: &[u8]) -> bool
     ensures { λ r. ⌜ r ≡ everyNumber (now (numbers .entry)) ⌝ }
 {
+    let mut all = true;
     let mut i = 0;
     while i < numbers.len() {
-        if !is_number(numbers[i]) {
-            return false;
-        }
+        all = all & is_number(numbers[i]);
         i += 1;
     }
-    true
+    all
 }

@@ -1,0 +1,57 @@
+-- `pixels::Ready::apply` meets its contract: a state is below 2^63, and the bounds keep the sums within 64 bits.
+use mathlib.Core.Path.{ap, _∙_}
+use Prim.Native.Nat.{ℕ, _+_, _-_, min, max}
+use native.Mathlib.Omega.{arith}
+use lib.IntN.{pos}
+use mir.Syntax.{w64}
+use mir.Facts.{toZ-ofZ}
+use Rattle.base.specs.Integer.{up}
+use Rattle.pixels.specs.Ready.{movedReady}
+use Rattle.pixels.proofs.Machine.{up-fits}
+use borrow.Author.Needs.{needs}
+use Rattle.pixels.proofs.Ready.apply.Statement.{statement}
+use Rattle.pixels.proofs.Ready.apply.Tie as tie
+
+above-requires : tie.Need-above-requires
+above-requires c κs = search needs
+
+add-least : tie.Need-add-least
+add-least c =
+    let s = c .before .before in
+    record { fits = omega (arith, c .before .above .ensures, ap up (toZ-ofZ (s .fits .z)), up-fits (s .fits .z), s .pre .added) }
+
+least-requires : tie.Need-least-requires
+least-requires c κs = search needs
+
+greatest-requires : tie.Need-greatest-requires
+greatest-requires c κs = search needs
+
+sub-result : tie.Need-sub-result
+sub-result c = search needs
+
+cast-result : tie.Need-cast-result
+cast-result c = search needs
+
+returns : tie.Need-returns
+unfolding movedReady
+returns c =
+    let s = c .before .before .before .before .before in
+    let t = s .args .self in
+    let bounds = s .pre in
+    let g = c .before .greatest .result in
+    toZ-ofZ {w = w64} {z = pos (g - t .take)} (record { sfits = omega (arith, c .before .greatest .ensures, c .before .before .least .ensures) })
+    ∙ ap (λ (n : ℕ). pos (n - t .take))
+    (c .before .greatest .ensures
+    ∙ ap (max (t .low)) (c .before .before .least .ensures ∙ ap (λ (n : ℕ). min (n + t .add) (t .high)) (c .before .before .before .before .above .ensures ∙ ap up (toZ-ofZ (s .fits .z)))))
+
+pub apply-spec : {M : Type 1} → statement M
+apply-spec =
+    tie.close
+    (tie.spec
+    above-requires
+    add-least
+    least-requires
+    greatest-requires
+    sub-result
+    cast-result
+    returns)

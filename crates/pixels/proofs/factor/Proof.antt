@@ -1,0 +1,19 @@
+-- `pixels::factor` meets its contract: a quotient times its divisor is at most what was divided.
+use native.Mathlib.Nat.{div-add-mod}
+use native.Mathlib.Omega.{arith}
+use Rattle.pixels.specs.Guess.{white}
+use borrow.Author.Needs.{needs}
+use Rattle.pixels.proofs.factor.Statement.{statement}
+use Rattle.pixels.proofs.factor.Tie as tie
+
+div-result : tie.Need-div-result
+div-result c = search needs
+
+returns : tie.Need-returns
+returns c = search needs
+
+returns-2 : tie.Need-returns-2
+returns-2 c = omega (arith, div-add-mod white (c .before .args .most))
+
+pub factor-spec : {M : Type 1} → statement M
+factor-spec = tie.close (tie.spec div-result returns returns-2)
