@@ -20,27 +20,10 @@ use Rattle.pixels.specs.Drive.{byNumber, movedOnce, movedBy, driven, fra
 use Rattle.pixels.proofs.ListLaws.{beside-length, beside-at, beside-past}
 use Rattle.pixels.proofs.StateLaws.{states-in-range, in-range-states}
 
--- ---- what belongs to a table number, case by case
-module _ {A : Type 0} (ww kw wk kk none : A) where
-  pub number-1 : (n : ℕ) → n ≡ 1 → byNumber ww kw wk kk none n ≡ ww
-  unfolding byNumber
-  number-1 n e = ap (byNumber ww kw wk kk none) e
-
-  pub number-2 : (n : ℕ) → n ≡ 2 → byNumber ww kw wk kk none n ≡ kw
-  unfolding byNumber
-  number-2 n e = ap (byNumber ww kw wk kk none) e
-
-  pub number-3 : (n : ℕ) → n ≡ 3 → byNumber ww kw wk kk none n ≡ wk
-  unfolding byNumber
-  number-3 n e = ap (byNumber ww kw wk kk none) e
-
-  pub number-4 : (n : ℕ) → n ≡ 4 → byNumber ww kw wk kk none n ≡ kk
-  unfolding byNumber
-  number-4 n e = ap (byNumber ww kw wk kk none) e
-
-  pub number-none : (n : ℕ) → (n ≡ 1 → ⊥) → (n ≡ 2 → ⊥) → (n ≡ 3 → ⊥) → (n ≡ 4 → ⊥) → byNumber ww kw wk kk none n ≡ none
-  unfolding byNumber
-  number-none n p q r s = rw (ne-eqb n 1 p, ne-eqb n 2 q, ne-eqb n 3 r, ne-eqb n 4 s)
+-- ---- what belongs to a table number
+pub number-none : {A : Type 0} (ww kw wk kk none : A) (n : ℕ) → (n ≡ 1 → ⊥) → (n ≡ 2 → ⊥) → (n ≡ 3 → ⊥) → (n ≡ 4 → ⊥) → byNumber ww kw wk kk none n ≡ none
+unfolding byNumber
+number-none ww kw wk kk none n p q r s = rw (ne-eqb n 1 p, ne-eqb n 2 q, ne-eqb n 3 r, ne-eqb n 4 s)
 
 -- what holds of each case on both sides holds of what belongs to the number
 pick-both : {A B : Type 0} (P : A → B → Type 0) (t : Bool) (a b : A) (a′ b′ : B) → P a a′ → P b b′ → P (pick t a b) (pick t a′ b′)

@@ -41,7 +41,7 @@ ready-moves t z h =
 
 -- what an array's reading names past its end
 abbrev pub unread : Ready
-unread = record { add = 0; take = 0; low = 0; high = 0 }
+unread = record { plus = 0; minus = 0; low = 0; high = 0 }
 
 -- ---- the four transfers, and the last again for a number with none
 abbrev pub readied : Transfer → Transfer → Transfer → Transfer → List Ready

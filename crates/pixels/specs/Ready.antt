@@ -14,22 +14,22 @@ past = 0x8000_0000_0000_0000
 -- what a transfer adds and what it takes away, of which one is 0, and its ends raised by what it takes
 unfoldable pub readyOf : Transfer → Ready
 readyOf t = record {
-  add = min (t .up - t .down) past;
-  take = min (t .down - t .up) past;
+  plus = min (t .up - t .down) past;
+  minus = min (t .down - t .up) past;
   low = min (t .lo) most + min (t .down - t .up) past;
   high = min (t .hi) most + min (t .down - t .up) past;
 }
 
 -- an entry moved by it; what lies below 0 counts as 0
 unfoldable pub movedReady : Ready → ℤ → ℤ
-movedReady t z = pos (max (t .low) (min (up z + t .add) (t .high)) - t .take)
+movedReady t z = pos (max (t .low) (min (up z + t .plus) (t .high)) - t .minus)
 
 -- what keeps that within 64 bits
 pub record Bounded (t : Ready) : Type 0 where
-  pub added : t .add ≤ past
-  pub taken : t .take ≤ t .low
-  pub lowest : t .low ≤ most + t .take
-  pub highest : t .high ≤ most + t .take
+  pub added : t .plus ≤ past
+  pub taken : t .minus ≤ t .low
+  pub lowest : t .low ≤ most + t .minus
+  pub highest : t .high ≤ most + t .minus
 
 -- where the transfer of a table number stands among the four; 4, past them, for a number with none
 abbrev pub slotOf : ℕ → ℕ

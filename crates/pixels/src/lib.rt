@@ -38,7 +38,13 @@ const KK: u8 = 4;
 
 const UNDRIVEN: u8 = 255;
 
-// A guessed grey is counted in units of 2^-54: 2^54 of them, and 255 times as many.
+// Where no transfer of the four stands.
+const NO_SLOT: usize = 4;
+
+// A threshold for each grey, and for the one past white.
+const THRESHOLDS: usize = 257;
+
+// A grey, and white, which is 255, in the units of a guess, 2^-54.
 const UNIT: u64 = 0x40_0000_0000_0000;
 
 const WHITE: u64 = 0x3FC0_0000_0000_0000;
@@ -97,12 +103,12 @@ pub fn fill_words(words: &mut [u64])
     }
 }
 
-// A transfer made ready for states up to 2^63 - 1: `add` is added to a state, the sum is held to
-// low ..= high, and `take` is taken from it. One of add and take is 0, and the ends are raised by
-// take, so no sign is tested.
+// A transfer made ready for states up to 2^63 - 1: `plus` is added to a state, the sum is held to
+// low ..= high, and `minus` is taken from it. One of plus and minus is 0, and the ends are raised
+// by minus, so no sign is tested.
 struct Ready {
-    add: u64,
-    take: u64,
+    plus: u64,
+    minus: u64,
     low: u64,
     high: u64,
 }
@@ -111,15 +117,15 @@ impl Ready {
     fn new(t: Transfer) -> Ready
         ensures { λ r. ⌜ r ≡ readyOf t ⌝ }
     {
-        let add = least(saturating_sub(t.up, t.down), PAST);
-        let take = least(saturating_sub(t.down, t.up), PAST);
+        let plus = least(saturating_sub(t.up, t.down), PAST);
+        let minus = least(saturating_sub(t.down, t.up), PAST);
         let lo = least(t.lo, MOST);
         let hi = least(t.hi, MOST);
         Ready {
-            add,
-            take,
-            low: lo + take,
-            high: hi + take,
+            plus,
+            minus,
+            low: lo + minus,
+            high: hi + minus,
         }
     }
 
@@ -128,7 +134,7 @@ impl Ready {
         requires { ⌜ Bounded self ⌝ }
         ensures { λ r. ⌜ r ≡ movedReady self z ⌝ }
     {
-        (greatest(self.low, least(above(z) + self.add, self.high)) - self.take) as i64
+        (greatest(self.low, least(above(z) + self.plus, self.high)) - self.minus) as i64
     }
 }
 
@@ -137,19 +143,19 @@ fn slot(number: u8) -> usize
     ensures { λ r. ⌜ r ≡ slotOf number ⌝ }
 {
     if number == 0 {
-        return 4;
+        return NO_SLOT;
     }
     if number <= KK {
         return number as usize - 1;
     }
-    4
+    NO_SLOT
 }
 
 // The state y that a move gives, where the slot is a transfer's, else the state z as it was.
 fn if_driven(slot: usize, y: i64, z: i64) -> i64
     ensures { λ r. ⌜ r ≡ pick (ltb slot 4) y z ⌝ }
 {
-    if slot < 4 { y } else { z }
+    if slot < NO_SLOT { y } else { z }
 }
 
 // Every state moves by the transfer of its table number. Another number leaves it, and so does a
@@ -165,7 +171,13 @@ pub fn drive(
     ensures { λ _. ⌜ now (states .exit) ≡ driven ww kw wk kk (now (numbers .entry)) (now (states .entry)) ⌝ }
 {
     let n = shorter(states.len(), numbers.len());
-    let ts = [Ready::new(ww), Ready::new(kw), Ready::new(wk), Ready::new(kk), Ready::new(kk)];
+    let ts = [
+        Ready::new(ww),
+        Ready::new(kw),
+        Ready::new(wk),
+        Ready::new(kk),
+        Ready::new(kk),
+    ];
     let mut i: usize = 0;
     while i < n {
         let z = states[i];
@@ -183,16 +195,18 @@ fn threshold(q: u64, swing: u64) -> u64
     ensures { λ r. ⌜ r ≡ thresholdOf q swing ⌝ }
 {
     let m = saturating_sub(2 * q, 1);
-    saturating_add(saturating_mul(m, swing / 510), (m * (swing % 510) + 509) / 510)
+    saturating_add(
+        saturating_mul(m, swing / 510),
+        (m * (swing % 510) + 509) / 510,
+    )
 }
 
-// The thresholds of the greys, and of the one past white.
-fn thresholds(swing: u64) -> [u64; 257]
+fn thresholds(swing: u64) -> [u64; THRESHOLDS]
     ensures { λ r. ⌜ Thresholds swing r 257 ⌝ }
 {
-    let mut from = [0u64; 257];
+    let mut from = [0u64; THRESHOLDS];
     let mut q: usize = 0;
-    while q < 257 {
+    while q < THRESHOLDS {
         from[q] = threshold(q as u64, swing);
         q += 1;
     }

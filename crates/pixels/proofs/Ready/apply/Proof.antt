@@ -39,10 +39,10 @@ returns c =
     let t = s .args .self in
     let bounds = s .pre in
     let g = c .before .greatest .result in
-    toZ-ofZ {w = w64} {z = pos (g - t .take)} (record { sfits = omega (arith, c .before .greatest .ensures, c .before .before .least .ensures) })
-    ∙ ap (λ (n : ℕ). pos (n - t .take))
+    toZ-ofZ {w = w64} {z = pos (g - t .minus)} (record { sfits = omega (arith, c .before .greatest .ensures, c .before .before .least .ensures) })
+    ∙ ap (λ (n : ℕ). pos (n - t .minus))
     (c .before .greatest .ensures
-    ∙ ap (max (t .low)) (c .before .before .least .ensures ∙ ap (λ (n : ℕ). min (n + t .add) (t .high)) (c .before .before .before .before .above .ensures ∙ ap up (toZ-ofZ (s .fits .z)))))
+    ∙ ap (max (t .low)) (c .before .before .least .ensures ∙ ap (λ (n : ℕ). min (n + t .plus) (t .high)) (c .before .before .before .before .above .ensures ∙ ap up (toZ-ofZ (s .fits .z)))))
 
 pub apply-spec : {M : Type 1} → statement M
 apply-spec =
