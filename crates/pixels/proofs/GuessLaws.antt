@@ -1,14 +1,13 @@
 -- A grey that the thresholds confirm is the state's, and a guess is at most 255.
 use mathlib.Core.Path.{_≡_, sym, ap, _∙_}
 use mathlib.Core.List.{List}
-use Prim.Native.Nat.{ℕ, _+_, _*_, _/_, _≤_, _<_, min}
+use Prim.Native.Nat.{ℕ, _+_, _*_, _/_, _≤_, _<_}
 use native.Mathlib.Nat.{le-trans, mul-le-mul-right}
 use native.Mathlib.Decide.{ℕ-discrete}
 use native.Mathlib.Omega.{arith}
-use lib.ListN.{length, getD, set, length-set}
+use lib.ListN.{getD, set, length-set}
 use lib.Seq.{getD-set-same, getD-set-other}
-use Rattle.base.specs.Word.{top}
-use Rattle.glass.specs.Gray.{grayOf, leastOf}
+use Rattle.glass.specs.Gray.{grayOf}
 use Rattle.glass.proofs.GrayLaws.{gray-between}
 use Rattle.pixels.specs.declared.Scale.{Scale}
 use Rattle.pixels.specs.Guess.{thresholdOf, Thresholds, unit, white, Scaled}

@@ -1,5 +1,5 @@
 -- `pixels::all_states` meets its contract. The invariant: whether the states passed by are in range, and what is left, decide. The measure is what is left.
-use mathlib.Core.Path.{_≡_, refl, ap, _∙_}
+use mathlib.Core.Path.{_≡_, ap, _∙_}
 use mathlib.Core.Bool.{false}
 use Prim.Native.Nat.{_-_, _≤_}
 use borrow.Author.Needs.{needs}

@@ -1,7 +1,7 @@
 -- `pixels::drive` meets its contract. The invariant: by whatever transfers the five were made ready of, the states whose turn has come are moved (`Changed`). The measure is what is left of the shorter length.
 use mathlib.Core.Path.{_≡_, refl, ap, _∙_}
 use mathlib.Core.List.{List, [], _∷_}
-use Prim.Native.Nat.{ℕ, _-_, _<_}
+use Prim.Native.Nat.{ℕ, _-_}
 use borrow.Author.Needs.{needs}
 use native.Mathlib.Omega.{arith}
 use lib.Dec.{ltb}
@@ -15,13 +15,14 @@ use Rattle.base.specs.Pick.{pick}
 use Rattle.glass.specs.declared.Transfer.{Transfer}
 use Rattle.pixels.specs.declared.Ready.{Ready}
 use Rattle.pixels.specs.Drive.{movedBy}
-use Rattle.pixels.specs.Ready.{readyOf, movedReady, slotOf}
+use Rattle.pixels.specs.Ready.{movedReady, slotOf}
 use Rattle.pixels.proofs.Machine.{up-fits}
 use Rattle.pixels.proofs.ListLaws.{Changed, changed-none, changed-more, changed-done}
 use Rattle.pixels.proofs.ReadyLaws.{unread, readied, slot-five, slot-bounded, slot-moves}
 use Rattle.pixels.proofs.drive.Statement.{statement}
 use Rattle.pixels.proofs.drive.Tie as tie
 
+-- the transfers themselves are no longer at hand in the loop, only what was made of them
 record Driven (numbers : List ℕ) (states₀ : List ℤ) (ts : List Ready) (states : List ℤ) (i : ℕ) : Type 0 where
   moved : (ww kw wk kk : Transfer) → ts ≡ readied ww kw wk kk → Changed (movedBy ww kw wk kk) numbers states₀ states i
   long : length states ≡ length states₀
@@ -32,13 +33,12 @@ Inv-loop states₀ numbers n ts i₀ states i = Driven numbers states₀ ts stat
 abbrev μ-loop : tie.MeasureT-loop
 μ-loop states₀ numbers n ts i₀ states i = n - i
 
--- the five that are made ready
-module _ (c : tie.After-new5 Inv-loop μ-loop) where
-  abbrev five : List Ready
-  five = c .before .before .before .before .new .result ∷ c .before .before .before .new2 .result ∷ c .before .before .new3 .result ∷ c .before .new4 .result ∷ c .new5 .result ∷ []
-
-  made : five ≡ readied (c .before .before .before .before .before .before .before .args .ww) (c .before .before .before .before .before .before .before .args .kw) (c .before .before .before .before .before .before .before .args .wk) (c .before .before .before .before .before .before .before .args .kk)
-  made = simp (c .before .before .before .before .new .ensures, c .before .before .before .new2 .ensures, c .before .before .new3 .ensures, c .before .new4 .ensures, c .new5 .ensures)
+-- the five are what the transfers make
+made : (c : tie.After-new5 Inv-loop μ-loop) →
+    let a = c .before .before .before .before .before .before .before .args in
+    c .before .before .before .before .new .result ∷ c .before .before .before .new2 .result ∷ c .before .before .new3 .result ∷ c .before .new4 .result ∷ c .new5 .result ∷ []
+    ≡ readied (a .ww) (a .kw) (a .wk) (a .kk)
+made c = simp (c .before .before .before .before .new .ensures, c .before .before .before .new2 .ensures, c .before .before .new3 .ensures, c .before .new4 .ensures, c .new5 .ensures)
 
 -- what is stored is the state, moved by the transfer of its number
 stored : (ww kw wk kk : Transfer) (ts : List Ready) (n k : ℕ) (z y r : ℤ) → ts ≡ readied ww kw wk kk → SFits w64 z → SFits w64 y → SFits w64 r →

@@ -1,8 +1,8 @@
 -- `pixels::factor` meets its contract: a quotient times its divisor is at most what was divided.
+use borrow.Author.Needs.{needs}
 use native.Mathlib.Nat.{div-add-mod}
 use native.Mathlib.Omega.{arith}
 use Rattle.pixels.specs.Guess.{white}
-use borrow.Author.Needs.{needs}
 use Rattle.pixels.proofs.factor.Statement.{statement}
 use Rattle.pixels.proofs.factor.Tie as tie
 

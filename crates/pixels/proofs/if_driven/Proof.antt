@@ -2,7 +2,6 @@
 use mathlib.Core.Path.{_∙_}
 use borrow.Author.Tests.{lt-ltb, le-ltb}
 use mir.Facts.{toZ-ofZ}
-use borrow.Author.Needs.{needs}
 use Rattle.pixels.proofs.if_driven.Statement.{statement}
 use Rattle.pixels.proofs.if_driven.Tie as tie
 

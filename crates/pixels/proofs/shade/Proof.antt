@@ -1,9 +1,9 @@
 -- `pixels::shade` meets its contract: a guess is at most 255, so both of its thresholds stand in the table, and they say whether it is the grey.
 use mathlib.Core.Path.{sym}
+use borrow.Author.Needs.{needs}
 use native.Mathlib.Omega.{arith}
 use denote.Ref.{now}
 use Rattle.pixels.proofs.GuessLaws.{confirmed, product, guess}
-use borrow.Author.Needs.{needs}
 use Rattle.pixels.proofs.shade.Statement.{statement}
 use Rattle.pixels.proofs.shade.Tie as tie
 

@@ -1,9 +1,9 @@
 -- `pixels::slot` meets its contract: 0 has no table, 1 to 4 have one each, and what lies above has none.
 use mathlib.Core.Path.{sym}
+use borrow.Author.Needs.{needs}
 use native.Mathlib.Omega.{arith}
 use Rattle.pixels.proofs.DriveLaws.{number-none}
 use Rattle.pixels.proofs.ReadyLaws.{slot-table}
-use borrow.Author.Needs.{needs}
 use Rattle.pixels.proofs.slot.Statement.{statement}
 use Rattle.pixels.proofs.slot.Tie as tie
 

@@ -1,11 +1,11 @@
 -- `pixels::threshold` meets its contract: the split quotient is the definition's, and a sum that is held twice is held once.
 use mathlib.Core.Path.{_≡_, ap, _∙_}
 use Prim.Native.Nat.{ℕ, _+_, _*_, _/_, _%_, _≤_, min}
+use borrow.Author.Needs.{needs}
 use native.Mathlib.Nat.{mul-le-mul}
 use native.Mathlib.Omega.{arith}
 use Rattle.base.specs.Word.{top}
 use Rattle.glass.proofs.GrayLaws.{least-split}
-use borrow.Author.Needs.{needs}
 use Rattle.pixels.proofs.threshold.Statement.{statement}
 use Rattle.pixels.proofs.threshold.Tie as tie
 

@@ -1,6 +1,7 @@
 -- `pixels::Ready::apply` meets its contract: a state is below 2^63, and the bounds keep the sums within 64 bits.
 use mathlib.Core.Path.{ap, _∙_}
 use Prim.Native.Nat.{ℕ, _+_, _-_, min, max}
+use borrow.Author.Needs.{needs}
 use native.Mathlib.Omega.{arith}
 use lib.IntN.{pos}
 use mir.Syntax.{w64}
@@ -8,7 +9,6 @@ use mir.Facts.{toZ-ofZ}
 use Rattle.base.specs.Integer.{up}
 use Rattle.pixels.specs.Ready.{movedReady}
 use Rattle.pixels.proofs.Machine.{up-fits}
-use borrow.Author.Needs.{needs}
 use Rattle.pixels.proofs.Ready.apply.Statement.{statement}
 use Rattle.pixels.proofs.Ready.apply.Tie as tie
 
