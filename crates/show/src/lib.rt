@@ -1,5 +1,10 @@
 // A capture played in buffers of its panel's size, and then written on standard output.
+ghost use mathlib.Core.Path.{_≡_};
 ghost use Prim.Native.Nat.{_≤_};
+ghost use Rattle.controller.specs.World.{buffers};
+ghost use Rattle.playback.specs.Played as rule;
+ghost use Rattle.show.specs.Shown.{room, shown};
+use playback::Played;
 use playback::play;
 
 // A capture of the largest size and one byte more, so that a larger one is seen to be larger.
@@ -22,8 +27,21 @@ pub enum Form {
     Picture,
 }
 
-// A capture in buffers of its panel's size; of a refused one its number is written.
-fn play_and_print(
+// Of a refused capture its number is written.
+fn write(file: &[u8], form: Form, played: Played, answers: &[u16], picture: &[u8], rows: &[u64]) {
+    if played.refused != 0 {
+        print::refused(played.refused);
+        return;
+    }
+    let chip = played.chip;
+    match form {
+        Form::Lines => print::played(file, chip, answers, picture, rows),
+        Form::Picture => print::graymap(chip, picture),
+    }
+}
+
+// The capture in buffers of its panel's size.
+fn play_in(
     file: &[u8],
     form: Form,
     answers: &mut [u16],
@@ -33,36 +51,34 @@ fn play_and_print(
     numbers: &mut [u8],
     picture: &mut [u8],
     rows: &mut [u64],
-) {
+)
+    ensures { λ r. ⌜ now (old .exit) ≡ rule.played (now (file .entry)) (buffers (now (old .entry)) (now (new .entry)) (now (states .entry)) (now (numbers .entry)) (now (picture .entry)) (now (rows .entry))) .lent .old ⌝ }
+    ensures { λ r. ⌜ now (new .exit) ≡ rule.played (now (file .entry)) (buffers (now (old .entry)) (now (new .entry)) (now (states .entry)) (now (numbers .entry)) (now (picture .entry)) (now (rows .entry))) .lent .new ⌝ }
+{
     let played = play(file, answers, old, new, states, numbers, picture, rows);
-    let chip = played.chip;
-    if played.refused != 0 {
-        print::refused(played.refused);
-        return;
-    }
-    match form {
-        Form::Lines => print::played(file, chip, answers, picture, rows),
-        Form::Picture => print::graymap(chip, picture),
-    }
+    write(file, form, played, answers, picture, rows);
 }
 
 // How many pixels the capture's panel has, and no more than there is room for.
 fn pixels(file: &[u8]) -> usize
-    ensures { λ r. ⌜ r ≤ 8000 ⌝ }
+    ensures { λ r. ⌜ (r ≡ room (now (file .entry))) × (r ≤ 8000) ⌝ }
 {
     let n = capture::pixels(capture::config(file));
     if n < PIXELS { n } else { PIXELS }
 }
 
-// The capture over the two lent planes.
-pub fn show(file: &[u8], form: Form, old: &mut [u8], new: &mut [u8]) {
+// The capture over the two lent planes, which then hold what its last event left in them.
+pub fn show(file: &[u8], form: Form, old: &mut [u8], new: &mut [u8])
+    ensures { λ r. ⌜ now (old .exit) ≡ shown (now (file .entry)) (now (old .entry)) (now (new .entry)) .lent .old ⌝ }
+    ensures { λ r. ⌜ now (new .exit) ≡ shown (now (file .entry)) (now (old .entry)) (now (new .entry)) .lent .new ⌝ }
+{
     let mut states = [0i64; PIXELS];
     let mut numbers = [0u8; PIXELS];
     let mut picture = [0u8; PIXELS];
     let mut rows = [0u64; ROWS];
     let mut answers = [0u16; EVENTS];
     let n = pixels(file);
-    play_and_print(
+    play_in(
         file,
         form,
         &mut answers,

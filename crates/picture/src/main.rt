@@ -1,0 +1,18 @@
+// A capture on standard input, and on standard output its last picture as a graymap, which any
+// viewer opens, or `refused` and a number.
+use libc::STDIN_FILENO;
+use show::Form;
+use show::INPUT;
+use show::show;
+
+fn run(file: &[u8]) {
+    let mut old = [0u8; 60000];
+    let mut new = [0u8; 60000];
+    show(file, Form::Picture, &mut old, &mut new);
+}
+
+fn main() {
+    let mut buffer = [0u8; INPUT];
+    let n = io::read_full(STDIN_FILENO, &mut buffer);
+    run(&buffer[..n]);
+}

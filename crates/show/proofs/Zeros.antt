@@ -1,0 +1,28 @@
+-- A part of zeros is zeros: what is lent for a capture is what its definition says.
+use mathlib.Core.Path.{_≡_, refl, ap, _∙_}
+use mathlib.Core.List.{List, [], _∷_}
+use Prim.Native.Nat.{ℕ, zero, suc, _≤_}
+use native.Mathlib.Nat.{not-suc-le-zero, le-of-suc-le-suc}
+use lib.IntN.{ℤ, pos}
+use lib.ListN.{take, replicate}
+use Rattle.controller.specs.World.{World, Buffers, buffers}
+use Rattle.playback.specs.Played.{played}
+use Rattle.show.specs.Shown.{room, lentFor, shown}
+
+part : {A : Type 0} (n m : ℕ) (x : A) → n ≤ m → take n (replicate m x) ≡ replicate n x
+part zero m x h = refl
+part (suc n) zero x h = absurd (not-suc-le-zero h)
+part (suc n) (suc m) x h = ap (λ l. x ∷ l) (part n m x (le-of-suc-le-suc h))
+
+module _ (file old new : List ℕ) (n m : ℕ) (e : n ≡ room file) (h : n ≤ m) where
+  zeros : {A : Type 0} (x : A) → take n (replicate m x) ≡ replicate (room file) x
+  zeros x = part n m x h ∙ ap (λ (k : ℕ). replicate k x) e
+
+  lent : buffers old new (take n (replicate m (pos 0))) (take n (replicate m 0)) (take n (replicate m 0)) (replicate 5120 0) ≡ lentFor file old new
+  lent = λ i. buffers old new (zeros (pos 0) i) (zeros {A = ℕ} 0 i) (zeros {A = ℕ} 0 i) (replicate 5120 0)
+
+  pub old-shown : played file (buffers old new (take n (replicate m (pos 0))) (take n (replicate m 0)) (take n (replicate m 0)) (replicate 5120 0)) .lent .old ≡ shown file old new .lent .old
+  old-shown = ap (λ (b : Buffers). played file b .lent .old) lent
+
+  pub new-shown : played file (buffers old new (take n (replicate m (pos 0))) (take n (replicate m 0)) (take n (replicate m 0)) (replicate 5120 0)) .lent .new ≡ shown file old new .lent .new
+  new-shown = ap (λ (b : Buffers). played file b .lent .new) lent

@@ -1,0 +1,68 @@
+-- `show::show` meets its contract: no panel has more pixels than there is room for, and the other buffers are lent as zeros.
+
+use Rattle.show.proofs.Zeros.{old-shown, new-shown}
+use mathlib.Core.Path.{sym, subst, _∙_}
+use Prim.Native.Nat.{ℕ, _≤_}
+use lib.IntN.{ℤ, pos}
+use lib.ListN.{replicate, length-replicate}
+use lib.Seq.{length-take-le}
+use borrow.Author.Needs.{needs}
+use Rattle.show.proofs.show.Statement.{statement}
+use Rattle.show.proofs.show.Tie as tie
+
+pixels-requires : tie.Need-pixels-requires
+pixels-requires c κs = search needs
+
+slice-aggregate-play-in : tie.Need-slice-aggregate-play-in
+slice-aggregate-play-in c = search needs
+
+array-borrow-prefix-states : tie.Need-array-borrow-prefix-states
+array-borrow-prefix-states c = search needs
+
+slice-aggregate-play-in-2 : tie.Need-slice-aggregate-play-in-2
+slice-aggregate-play-in-2 c = sym (length-take-le _ (replicate {A = ℤ} 8000 (pos 0)) (subst (λ (m : ℕ). c .before .before .before .before .pixels .result ≤ m) (sym (length-replicate {A = ℤ} 8000 (pos 0))) (c .before .before .before .before .pixels .ensures .1)))
+
+array-borrow-prefix-numbers : tie.Need-array-borrow-prefix-numbers
+array-borrow-prefix-numbers c = search needs
+
+slice-aggregate-play-in-3 : tie.Need-slice-aggregate-play-in-3
+slice-aggregate-play-in-3 c = sym (length-take-le _ (replicate {A = ℕ} 8000 0) (subst (λ (m : ℕ). c .before .before .before .before .before .pixels .result ≤ m) (sym (length-replicate {A = ℕ} 8000 0)) (c .before .before .before .before .before .pixels .ensures .1)))
+
+array-borrow-prefix-picture : tie.Need-array-borrow-prefix-picture
+array-borrow-prefix-picture c = search needs
+
+slice-aggregate-play-in-4 : tie.Need-slice-aggregate-play-in-4
+slice-aggregate-play-in-4 c = sym (length-take-le _ (replicate {A = ℕ} 8000 0) (subst (λ (m : ℕ). c .before .before .before .before .before .before .pixels .result ≤ m) (sym (length-replicate {A = ℕ} 8000 0)) (c .before .before .before .before .before .before .pixels .ensures .1)))
+
+slice-aggregate-play-in-5 : tie.Need-slice-aggregate-play-in-5
+slice-aggregate-play-in-5 c = search needs
+
+play-in-requires : tie.Need-play-in-requires
+play-in-requires c κs = search needs
+
+same-length : tie.Need-same-length
+same-length c = search needs
+
+same-length-2 : tie.Need-same-length-2
+same-length-2 c = search needs
+
+returns : tie.Need-returns
+returns c = let g = c .before .before .before .before .before .before .before .before .before .before .before .before .before .before .before .before .before .before .before .before .before .args in (c .before .before .before .before .before .before .before .before .before .play-in .ensures .0 ∙ old-shown (g .file .now) (g .old .now) (g .new .now) _ 8000 (c .before .before .before .before .before .before .before .before .before .before .before .before .before .before .before .before .before .pixels .ensures .0) (c .before .before .before .before .before .before .before .before .before .before .before .before .before .before .before .before .before .pixels .ensures .1), c .before .before .before .before .before .before .before .before .before .play-in .ensures .1 ∙ new-shown (g .file .now) (g .old .now) (g .new .now) _ 8000 (c .before .before .before .before .before .before .before .before .before .before .before .before .before .before .before .before .before .pixels .ensures .0) (c .before .before .before .before .before .before .before .before .before .before .before .before .before .before .before .before .before .pixels .ensures .1))
+
+pub show-spec : {M : Type 1} → statement M
+show-spec =
+    tie.close
+    (tie.spec
+    pixels-requires
+    slice-aggregate-play-in
+    array-borrow-prefix-states
+    slice-aggregate-play-in-2
+    array-borrow-prefix-numbers
+    slice-aggregate-play-in-3
+    array-borrow-prefix-picture
+    slice-aggregate-play-in-4
+    slice-aggregate-play-in-5
+    play-in-requires
+    same-length
+    same-length-2
+    returns)

@@ -1,0 +1,19 @@
+-- What a capture is played in: the two lent planes, and zeros of its panel's size.
+use mathlib.Core.List.{List}
+use Prim.Native.Nat.{ℕ, min}
+use lib.IntN.{pos}
+use lib.ListN.{replicate}
+use Rattle.capture.specs.Layout.{configIn, pixelsOf}
+use Rattle.controller.specs.World.{World, Buffers, buffers}
+use Rattle.playback.specs.Played.{played}
+
+-- a pixel of the panel each, and no more than there is room for
+unfoldable pub room : List ℕ → ℕ
+room file = min (pixelsOf (configIn file)) 8000
+
+abbrev pub lentFor : List ℕ → List ℕ → List ℕ → Buffers
+lentFor file old new = buffers old new (replicate (room file) (pos 0)) (replicate (room file) 0) (replicate (room file) 0) (replicate 5120 0)
+
+-- the record and all that was lent, after the last event
+abbrev pub shown : List ℕ → List ℕ → List ℕ → World
+shown file old new = played file (lentFor file old new)
