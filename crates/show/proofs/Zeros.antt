@@ -1,11 +1,12 @@
 -- A part of zeros is zeros: what is lent for a capture is what its definition says.
-use mathlib.Core.Path.{_≡_, refl, ap, _∙_}
+use mathlib.Core.Path.{_≡_, refl, sym, ap, subst, _∙_}
 use mathlib.Core.List.{List, [], _∷_}
 use Prim.Native.Nat.{ℕ, zero, suc, _≤_}
 use native.Mathlib.Nat.{not-suc-le-zero, le-of-suc-le-suc}
-use lib.IntN.{ℤ, pos}
-use lib.ListN.{take, replicate}
-use Rattle.controller.specs.World.{World, Buffers, buffers}
+use lib.IntN.{pos}
+use lib.ListN.{length, take, replicate, length-replicate}
+use lib.Seq.{length-take-le}
+use Rattle.controller.specs.World.{Buffers, buffers}
 use Rattle.playback.specs.Played.{played}
 use Rattle.show.specs.Shown.{room, lentFor, shown}
 
@@ -13,6 +14,10 @@ part : {A : Type 0} (n m : ℕ) (x : A) → n ≤ m → take n (replicate m x) �
 part zero m x h = refl
 part (suc n) zero x h = absurd (not-suc-le-zero h)
 part (suc n) (suc m) x h = ap (λ l. x ∷ l) (part n m x (le-of-suc-le-suc h))
+
+-- a part has its length
+pub length-part : {A : Type 0} (n m : ℕ) (x : A) → n ≤ m → n ≡ length (take n (replicate m x))
+length-part n m x h = sym (length-take-le n (replicate m x) (subst (λ (k : ℕ). n ≤ k) (sym (length-replicate m x)) h))
 
 module _ (file old new : List ℕ) (n m : ℕ) (e : n ≡ room file) (h : n ≤ m) where
   zeros : {A : Type 0} (x : A) → take n (replicate m x) ≡ replicate (room file) x

@@ -1,11 +1,9 @@
 -- `show::show` meets its contract: no panel has more pixels than there is room for, and the other buffers are lent as zeros.
 
-use Rattle.show.proofs.Zeros.{old-shown, new-shown}
-use mathlib.Core.Path.{sym, subst, _∙_}
-use Prim.Native.Nat.{ℕ, _≤_}
+use Rattle.show.proofs.Zeros.{length-part, old-shown, new-shown}
+use mathlib.Core.Path.{_∙_}
+use Prim.Native.Nat.{ℕ}
 use lib.IntN.{ℤ, pos}
-use lib.ListN.{replicate, length-replicate}
-use lib.Seq.{length-take-le}
 use borrow.Author.Needs.{needs}
 use Rattle.show.proofs.show.Statement.{statement}
 use Rattle.show.proofs.show.Tie as tie
@@ -20,19 +18,19 @@ array-borrow-prefix-states : tie.Need-array-borrow-prefix-states
 array-borrow-prefix-states c = search needs
 
 slice-aggregate-play-in-2 : tie.Need-slice-aggregate-play-in-2
-slice-aggregate-play-in-2 c = sym (length-take-le _ (replicate {A = ℤ} 8000 (pos 0)) (subst (λ (m : ℕ). c .before .before .before .before .pixels .result ≤ m) (sym (length-replicate {A = ℤ} 8000 (pos 0))) (c .before .before .before .before .pixels .ensures .1)))
+slice-aggregate-play-in-2 c = length-part {A = ℤ} _ 8000 (pos 0) (c .before .before .before .before .pixels .ensures .1)
 
 array-borrow-prefix-numbers : tie.Need-array-borrow-prefix-numbers
 array-borrow-prefix-numbers c = search needs
 
 slice-aggregate-play-in-3 : tie.Need-slice-aggregate-play-in-3
-slice-aggregate-play-in-3 c = sym (length-take-le _ (replicate {A = ℕ} 8000 0) (subst (λ (m : ℕ). c .before .before .before .before .before .pixels .result ≤ m) (sym (length-replicate {A = ℕ} 8000 0)) (c .before .before .before .before .before .pixels .ensures .1)))
+slice-aggregate-play-in-3 c = length-part {A = ℕ} _ 8000 0 (c .before .before .before .before .before .pixels .ensures .1)
 
 array-borrow-prefix-picture : tie.Need-array-borrow-prefix-picture
 array-borrow-prefix-picture c = search needs
 
 slice-aggregate-play-in-4 : tie.Need-slice-aggregate-play-in-4
-slice-aggregate-play-in-4 c = sym (length-take-le _ (replicate {A = ℕ} 8000 0) (subst (λ (m : ℕ). c .before .before .before .before .before .before .pixels .result ≤ m) (sym (length-replicate {A = ℕ} 8000 0)) (c .before .before .before .before .before .before .pixels .ensures .1)))
+slice-aggregate-play-in-4 c = length-part {A = ℕ} _ 8000 0 (c .before .before .before .before .before .before .pixels .ensures .1)
 
 slice-aggregate-play-in-5 : tie.Need-slice-aggregate-play-in-5
 slice-aggregate-play-in-5 c = search needs

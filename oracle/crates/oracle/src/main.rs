@@ -7,10 +7,12 @@ mod generate;
 mod glass;
 mod list;
 mod names;
+mod picture;
 mod planes;
 mod refreshes;
 mod refusal;
 mod registers;
+mod replays;
 mod rng;
 mod rows;
 mod run;
@@ -26,10 +28,11 @@ use std::io::{self, ErrorKind, Read, Write};
 use std::path::Path;
 use std::process::ExitCode;
 
-const USAGE: &str = "usage: oracle run | trace | list          (a capture on standard input)
+const USAGE: &str = "usage: oracle run | trace | list | picture   (a capture on standard input)
        oracle make SEED
        oracle stats SEED N
        oracle answers SEED LEVELS GREYS REFRESHES
+       oracle replays SEED N DIR
        oracle cases DIR | check DIR
 ";
 
@@ -61,6 +64,7 @@ fn obey(words: &[&str]) -> io::Result<ExitCode> {
         ["run"] => say(run::run(&input()?))?,
         ["trace"] => say(trace::trace(&input()?))?,
         ["list"] => say(list::list(&input()?))?,
+        ["picture"] => say(picture::picture(&input()?))?,
         ["make", seed] => say(generate::make(number(seed)?))?,
         ["stats", seed, count] => say(stats::stats(number(seed)?, number(count)?))?,
         ["answers", seed, levels, greys, refreshes] => say(answers::answers(
@@ -69,6 +73,9 @@ fn obey(words: &[&str]) -> io::Result<ExitCode> {
             number(greys)?,
             number(refreshes)?,
         ))?,
+        ["replays", seed, count, directory] => {
+            replays::write(number(seed)?, number(count)?, Path::new(directory))?;
+        }
         ["cases", directory] => cases::write(Path::new(directory))?,
         ["check", directory] => {
             let (text, equal) = cases::check(Path::new(directory))?;

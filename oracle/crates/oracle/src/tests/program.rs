@@ -3,7 +3,7 @@
 use chips::uc8253::{Plane, RAM_GATES};
 
 use crate::planes::{self, Planes};
-use crate::{cases, generate, run, stats, trace};
+use crate::{cases, generate, picture, replays, run, stats, trace};
 
 /// Digests that are kept are those taken anew over the whole planes.
 #[test]
@@ -48,6 +48,35 @@ fn the_stored_cases_are_the_written_ones() {
         let stored = std::fs::read(path).expect("each case is stored");
         assert_eq!(stored, case.file, "{}", case.name);
     }
+}
+
+/// A file of one of the project's crates.
+fn crate_file(path: &str) -> Vec<u8> {
+    let crates = std::path::Path::new(env!("CARGO_MANIFEST_DIR")).join("../../../crates");
+    std::fs::read(crates.join(path)).expect("the file is stored")
+}
+
+#[test]
+fn the_stored_sample_is_the_written_one() {
+    let sample = replays::sample(1, 344);
+    assert!(crate_file("replays/stdin") == sample.input);
+    assert!(crate_file("replays/stdout") == sample.output.as_bytes());
+}
+
+/// The graymap's bytes are the greys that `run` prints, and the stored one is the Rust's.
+#[test]
+fn a_graymap_holds_the_greys() {
+    let file = crate_file("picture/stdin");
+    let text = run::run(&file);
+    let mut rows = text.lines().skip_while(|line| !line.starts_with("image"));
+    let head: Vec<&str> = rows.next().unwrap_or_default().split(' ').collect();
+    let mut bytes = format!("P5\n{} {}\n255\n", head[1], head[2]).into_bytes();
+    bytes.extend(rows.flat_map(|row| {
+        row.split(' ')
+            .map(|grey| grey.parse::<u8>().expect("a grey"))
+    }));
+    assert_eq!(picture::picture(&file), bytes);
+    assert_eq!(crate_file("picture/stdout"), bytes);
 }
 
 #[test]
