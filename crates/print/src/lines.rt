@@ -1,4 +1,5 @@
 // The lines of document 01's program.
+use crate::text::ROOM;
 use crate::text::decimal;
 use crate::text::flush;
 use crate::text::number;
@@ -181,7 +182,7 @@ pub fn played(file: &[u8], chip: Uc8253, answers: &[u16], picture: &[u8], rows: 
     if file.len() < end {
         return;
     }
-    let mut text = io::large_buffer();
+    let mut text = [0u8; ROOM];
     gathered(&mut text, &file[..end], chip, answers, picture, rows);
 }
 
@@ -194,6 +195,6 @@ fn refusal(text: &mut [u8], no: u8) {
 
 // A capture that was refused, by the number.
 pub fn refused(no: u8) {
-    let mut text = [0u8; 16];
+    let mut text = [0u8; ROOM];
     refusal(&mut text, no);
 }

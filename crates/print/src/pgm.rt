@@ -1,5 +1,6 @@
 // The picture as a binary graymap of Netpbm (P5): width, height and the largest grey as text, then
 // a byte a pixel, 0 black to 255 white, rows from the top.
+use crate::text::ROOM;
 use crate::text::decimal;
 use crate::text::flush;
 use crate::text::number;
@@ -33,6 +34,6 @@ fn gathered(text: &mut [u8], chip: Uc8253, picture: &[u8]) {
 
 // The last picture.
 pub fn graymap(chip: Uc8253, picture: &[u8]) {
-    let mut text = io::large_buffer();
+    let mut text = [0u8; ROOM];
     gathered(&mut text, chip, picture);
 }

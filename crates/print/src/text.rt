@@ -2,6 +2,9 @@
 // adds to it answers how many are held then.
 use libc::STDOUT_FILENO;
 
+// The bytes of a buffer: most outputs take one write.
+pub(crate) const ROOM: usize = 8_192;
+
 // Writes out what is held.
 pub(crate) fn flush(text: &[u8], held: usize) {
     if held < text.len() {

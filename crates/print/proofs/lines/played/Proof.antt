@@ -11,14 +11,11 @@ events-end-requires c κs = search needs
 returns : tie.Need-returns
 returns c = search needs
 
-large-buffer-requires : tie.Need-large-buffer-requires
-large-buffer-requires c κs = search needs
-
 slice-aggregate-gathered : tie.Need-slice-aggregate-gathered
 slice-aggregate-gathered c = search needs
 
 slice-aggregate-gathered-2 : tie.Need-slice-aggregate-gathered-2
-slice-aggregate-gathered-2 c = sym (length-take-le _ (c .before .before .before .before .before .before .before .before .before .args .file .now) (c .before .before .before .if1 .left))
+slice-aggregate-gathered-2 c = sym (length-take-le _ (c .before .before .before .before .before .before .before .before .args .file .now) (c .before .before .if1 .left))
 
 gathered-requires : tie.Need-gathered-requires
 gathered-requires c κs = search needs
@@ -32,7 +29,6 @@ played-spec =
     (tie.spec
     events-end-requires
     returns
-    large-buffer-requires
     slice-aggregate-gathered
     slice-aggregate-gathered-2
     gathered-requires
