@@ -177,7 +177,7 @@ fn gathered(
 
 // A capture that was played: what its reads gave, the stored rows and the dropped count, and the
 // picture.
-pub fn played(file: &[u8], chip: Uc8253, answers: &[u16], picture: &[u8], rows: &[u64]) {
+pub(crate) fn played(file: &[u8], chip: Uc8253, answers: &[u16], picture: &[u8], rows: &[u64]) {
     let end = capture::events_end(file);
     if file.len() < end {
         return;
@@ -194,7 +194,7 @@ fn refusal(text: &mut [u8], no: u8) {
 }
 
 // A capture that was refused, by the number.
-pub fn refused(no: u8) {
+pub(crate) fn refused(no: u8) {
     let mut text = [0u8; ROOM];
     refusal(&mut text, no);
 }

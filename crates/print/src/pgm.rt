@@ -33,7 +33,7 @@ fn gathered(text: &mut [u8], chip: Uc8253, picture: &[u8]) {
 }
 
 // The last picture.
-pub fn graymap(chip: Uc8253, picture: &[u8]) {
+pub(crate) fn graymap(chip: Uc8253, picture: &[u8]) {
     let mut text = [0u8; ROOM];
     gathered(&mut text, chip, picture);
 }

@@ -5,9 +5,9 @@ use base::TOP;
 use base::least;
 use capture::little;
 use libc::STDIN_FILENO;
-use show::Form;
-use show::INPUT;
-use show::show;
+use print::Form;
+use print::INPUT;
+use print::show;
 
 // The bytes of a length.
 const LENGTH: usize = 4;

@@ -1,6 +1,6 @@
 -- `replays::pass_some` is safe and ends: there is room for n bytes.
 use Prim.Native.Nat.{ℕ}
-use Rattle.show.proofs.Zeros.{length-part}
+use Rattle.print.proofs.Zeros.{length-part}
 use borrow.Author.Needs.{needs}
 use Rattle.replays.proofs.pass_some.Statement.{statement}
 use Rattle.replays.proofs.pass_some.Tie as tie

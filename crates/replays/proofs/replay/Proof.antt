@@ -1,7 +1,7 @@
 -- `replays::replay` is safe and ends: what is read has room, and no more than the length is passed over.
 use Prim.Native.Nat.{ℕ}
 use native.Mathlib.Omega.{arith}
-use Rattle.show.proofs.Zeros.{length-part}
+use Rattle.print.proofs.Zeros.{length-part}
 use borrow.Author.Needs.{needs}
 use Rattle.replays.proofs.replay.Statement.{statement}
 use Rattle.replays.proofs.replay.Tie as tie

@@ -1,12 +1,12 @@
--- `show::show` meets its contract: no panel has more pixels than there is room for, and the other buffers are lent as zeros.
+-- `print::show` meets its contract: no panel has more pixels than there is room for, and the other buffers are lent as zeros.
 
-use Rattle.show.proofs.Zeros.{length-part, old-shown, new-shown}
+use Rattle.print.proofs.Zeros.{length-part, old-shown, new-shown}
 use mathlib.Core.Path.{_∙_}
 use Prim.Native.Nat.{ℕ}
 use lib.IntN.{ℤ, pos}
 use borrow.Author.Needs.{needs}
-use Rattle.show.proofs.show.Statement.{statement}
-use Rattle.show.proofs.show.Tie as tie
+use Rattle.print.proofs.show.Statement.{statement}
+use Rattle.print.proofs.show.Tie as tie
 
 pixels-requires : tie.Need-pixels-requires
 pixels-requires c κs = search needs

@@ -1,12 +1,12 @@
--- `show::pixels` meets its contract: the smaller of the two.
+-- `print::pixels` meets its contract: the smaller of the two.
 use mathlib.Core.Path.{_≡_, ap, _∙_}
 use Prim.Native.Nat.{ℕ, _<_, _≤_, min}
 use native.Mathlib.Omega.{arith}
 use Rattle.capture.specs.Layout.{pixelsOf}
-use Rattle.show.specs.Shown.{room}
+use Rattle.print.specs.Shown.{room}
 use borrow.Author.Needs.{needs}
-use Rattle.show.proofs.pixels.Statement.{statement}
-use Rattle.show.proofs.pixels.Tie as tie
+use Rattle.print.proofs.pixels.Statement.{statement}
+use Rattle.print.proofs.pixels.Tie as tie
 
 below : (n p : ℕ) → n ≡ p → n < 8000 → n ≡ min p 8000
 below n p e h = omega (arith, e, h)

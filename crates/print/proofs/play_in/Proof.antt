@@ -1,9 +1,9 @@
--- `show::play_in` meets its contract: the planes are what playing the capture made of them.
+-- `print::play_in` meets its contract: the planes are what playing the capture made of them.
 use Rattle.controller.specs.World.{World}
 use mathlib.Core.Path.{ap}
 use borrow.Author.Needs.{needs}
-use Rattle.show.proofs.play_in.Statement.{statement}
-use Rattle.show.proofs.play_in.Tie as tie
+use Rattle.print.proofs.play_in.Statement.{statement}
+use Rattle.print.proofs.play_in.Tie as tie
 
 play-requires : tie.Need-play-requires
 play-requires c κs = search needs

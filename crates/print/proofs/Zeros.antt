@@ -8,7 +8,7 @@ use lib.ListN.{length, take, replicate, length-replicate}
 use lib.Seq.{length-take-le}
 use Rattle.controller.specs.World.{Buffers, buffers}
 use Rattle.playback.specs.Played.{played}
-use Rattle.show.specs.Shown.{room, lentFor, shown}
+use Rattle.print.specs.Shown.{room, lentFor, shown}
 
 part : {A : Type 0} (n m : ℕ) (x : A) → n ≤ m → take n (replicate m x) ≡ replicate n x
 part zero m x h = refl
