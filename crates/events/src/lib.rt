@@ -15,6 +15,7 @@ pub use steps::NOTHING;
 pub use steps::READ;
 pub use steps::RESET;
 pub use steps::Stepped;
+pub use steps::read_number;
 pub use steps::step;
 ghost use mathlib.Core.Path.{_≡_};
 ghost use Rattle.controller.specs.World.{buffers, world};

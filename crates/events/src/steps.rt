@@ -49,7 +49,7 @@ fn no_read(a: Answer) -> Stepped
 }
 
 // The number of what a read gave.
-fn read_number(byte: Read) -> u16
+pub fn read_number(byte: Read) -> u16
     ensures { λ r. ⌜ r ≡ rule.readNumber byte ⌝ }
 {
     match byte {

@@ -1,1 +1,3 @@
-pub mod Exports
+pub mod Taken
+pub mod Handed
+pub mod Given

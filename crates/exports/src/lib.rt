@@ -1,96 +1,312 @@
-// The hot leaves for programs in other languages, by numbers and slices: what bench/ measures.
+// The controller for programs in other languages: the record crosses as numbers and plain structs,
+// handed over and taken back, and each call is the one of `uc8253` or `events` that it passes on.
+mod handed;
+mod taken;
+
+pub use handed::Handed;
+pub use handed::HandedActive;
+pub use handed::HandedImage;
+pub use handed::HandedOperation;
+use handed::hand_over;
+use taken::taken;
 ghost use mathlib.Core.Path.{_≡_};
-ghost use Rattle.exports.specs.Exports.{areaOf, pixelsOf, packed};
-ghost use Rattle.ram.specs.Write.{written, nextOf};
-ghost use Rattle.ram.specs.Copy.{copied};
-ghost use Rattle.numbers.specs.Filled.{rowsFilled};
-ghost use Rattle.numbers.specs.Number.{numberOf, someUndriven};
-use numbers::Pixels;
-use numbers::Scan;
-use ram::Cursor;
-use registers::Area;
+ghost use mathlib.Core.Bool.{false};
+ghost use Rattle.capture.specs.Layout.{configIn};
+ghost use Rattle.controller.specs.World.{Buffers, buffers, world, withRows};
+ghost use Rattle.controller.specs.TurnedBack as tests;
+ghost use Rattle.controller.specs.Calls as calls;
+ghost use Rattle.events.specs.Events as runs;
+ghost use Rattle.exports.specs.Taken.{takenOf};
+ghost use Rattle.exports.specs.Given as rule;
+use capture::config;
+use controller::Due;
+use controller::Uc8253;
+use events::NO_READ;
+use events::read_number;
+use events::run;
+use ram::Found;
+use uc8253::Answer;
+use uc8253::advance;
+use uc8253::busy_pin;
+use uc8253::next_deadline;
+use uc8253::power_on;
+use uc8253::ram_bit;
+use uc8253::read_data;
+use uc8253::set_reset;
+use uc8253::take_diagnostics;
+use uc8253::write_command;
+use uc8253::write_data;
 
-fn area(x0: u16, y0: u16, x1: u16, y1: u16) -> Area
-    ensures { λ r. ⌜ r ≡ areaOf x0 y0 x1 y1 ⌝ }
-{
-    Area { x0, y0, x1, y1 }
+// The record after a call, and the number of the refusal, 0 where the call was taken. The answer is
+// what a read gave, 256 for none, and 257 for a call that reads nothing; of a taking, how many rows.
+#[repr(C)]
+pub struct Given {
+    pub chip: Handed,
+    pub refused: u8,
+    pub answer: u16,
 }
 
-// A pixel byte at a place of an area; answers the next place, its row times 65,536 and its column.
-#[no_mangle]
-pub extern "C" fn jollanqe_write(
-    plane: &mut [u8],
-    x0: u16,
-    y0: u16,
-    x1: u16,
-    y1: u16,
-    x: u16,
-    y: u16,
-    byte: u8,
-) -> u32
-    ensures { λ r. ⌜ (now (plane .exit) ≡ written (now (plane .entry)) (areaOf x0 y0 x1 y1) x y byte) × (r ≡ packed (nextOf (areaOf x0 y0 x1 y1) (record { x = x; y = y }))) ⌝ }
-{
-    let a = area(x0, y0, x1, y1);
-    ram::write(plane, a, x, y, byte);
-    let next = ram::next(a, Cursor { x, y });
-    (next.y as u32) * 65_536 + (next.x as u32)
+// The answer to a question, where there is one, and the number of the refusal.
+#[repr(C)]
+pub struct Asked {
+    pub value: u64,
+    pub refused: u8,
+    pub known: bool,
 }
 
-// New copied to old in an area.
-#[no_mangle]
-pub extern "C" fn jollanqe_copy(old: &mut [u8], new: &[u8], x0: u16, y0: u16, x1: u16, y1: u16)
-    ensures { λ r. ⌜ now (old .exit) ≡ copied (now (old .entry)) (now (new .entry)) (areaOf x0 y0 x1 y1) ⌝ }
+fn give(p: Uc8253, refused: u8, answer: u16) -> Given
+    ensures { λ r. ⌜ r ≡ rule.givenOf p refused answer ⌝ }
 {
-    let a = area(x0, y0, x1, y1);
-    ram::copy_new_to_old(old, new, a);
-}
-
-fn pixels(sources: u16, gates: u16, columns_reversed: bool, rows_reversed: bool, a: Area) -> Pixels
-    ensures { λ r. ⌜ r ≡ pixelsOf sources gates «columns_reversed» «rows_reversed» a ⌝ }
-{
-    let columns = Scan {
-        reversed: columns_reversed,
-        count: sources,
-        straight: true,
-    };
-    let rows = Scan {
-        reversed: rows_reversed,
-        count: gates,
-        straight: true,
-    };
-    Pixels {
-        columns,
-        rows,
-        active: a,
-        area: a,
-        white: 1,
+    let chip = hand_over(p);
+    Given {
+        chip,
+        refused,
+        answer,
     }
 }
 
-// The numbers of a panel's pixels, none mirrored, 1 for white; answers whether one is 255.
-#[no_mangle]
-pub extern "C" fn jollanqe_numbers(
-    numbers: &mut [u8],
-    old: &[u8],
-    new: &[u8],
-    sources: u16,
-    gates: u16,
-    columns_reversed: bool,
-    rows_reversed: bool,
-    x0: u16,
-    y0: u16,
-    x1: u16,
-    y1: u16,
-) -> bool
-    ensures { λ r. ⌜ (now (numbers .exit) ≡ rowsFilled (numberOf (pixelsOf sources gates «columns_reversed» «rows_reversed» (areaOf x0 y0 x1 y1)) (now (old .entry)) (now (new .entry))) sources gates (now (numbers .entry))) × (r ≡ someUndriven (now (numbers .exit))) ⌝ }
+// After a call that reads nothing.
+fn no_read(a: Answer) -> Given
+    ensures { λ r. ⌜ r ≡ rule.givenOf (a .chip) (a .refused) 257 ⌝ }
 {
-    let p = pixels(
-        sources,
-        gates,
-        columns_reversed,
-        rows_reversed,
-        area(x0, y0, x1, y1),
-    );
-    numbers::numbers(numbers, old, new, p);
-    numbers::some_undriven(numbers)
+    let chip = a.chip;
+    give(chip, a.refused, NO_READ)
+}
+
+// Making, under the configuration of a capture file.
+#[no_mangle]
+pub extern "C" fn jollanqe_make(
+    file: &[u8],
+    old: &mut [u8],
+    new: &mut [u8],
+    states: &mut [i64],
+    numbers: &mut [u8],
+    picture: &mut [u8],
+    rows: &mut [u64],
+) -> Given
+    ensures { λ r. ⌜ world (takenOf (r .chip)) (buffers (now (old .exit)) (now (new .exit)) (now (states .exit)) (now (numbers .exit)) (now (picture .exit)) (now (rows .exit)))
+        ≡ calls.made (configIn (now (file .entry))) (buffers (now (old .entry)) (now (new .entry)) (now (states .entry)) (now (numbers .entry)) (now (picture .entry)) (now (rows .entry))) ⌝ }
+    ensures { λ r. ⌜ (r .refused ≡ tests.makingRefused (configIn (now (file .entry))) (buffers (now (old .entry)) (now (new .entry)) (now (states .entry)) (now (numbers .entry)) (now (picture .entry)) (now (rows .entry))))
+        × (r .answer ≡ 257) ⌝ }
+{
+    let config = config(file);
+    no_read(power_on(config, old, new, states, numbers, picture, rows))
+}
+
+// A command byte.
+#[no_mangle]
+pub extern "C" fn jollanqe_command(
+    chip: Handed,
+    at: u64,
+    command: u8,
+    old: &mut [u8],
+    new: &mut [u8],
+    states: &mut [i64],
+    numbers: &mut [u8],
+    picture: &mut [u8],
+    rows: &mut [u64],
+) -> Given
+    ensures { λ r. ⌜ world (takenOf (r .chip)) (buffers (now (old .exit)) (now (new .exit)) (now (states .exit)) (now (numbers .exit)) (now (picture .exit)) (now (rows .exit)))
+        ≡ calls.commandCall at command (world (takenOf chip) (buffers (now (old .entry)) (now (new .entry)) (now (states .entry)) (now (numbers .entry)) (now (picture .entry)) (now (rows .entry)))) ⌝ }
+    ensures { λ r. ⌜ (r .refused ≡ tests.turnedBack false at (world (takenOf chip) (buffers (now (old .entry)) (now (new .entry)) (now (states .entry)) (now (numbers .entry)) (now (picture .entry)) (now (rows .entry)))))
+        × (r .answer ≡ 257) ⌝ }
+{
+    let p = taken(chip);
+    no_read(write_command(p, at, command, old, new, states, numbers, picture, rows))
+}
+
+// A data byte.
+#[no_mangle]
+pub extern "C" fn jollanqe_data(
+    chip: Handed,
+    at: u64,
+    byte: u8,
+    old: &mut [u8],
+    new: &mut [u8],
+    states: &mut [i64],
+    numbers: &mut [u8],
+    picture: &mut [u8],
+    rows: &mut [u64],
+) -> Given
+    ensures { λ r. ⌜ world (takenOf (r .chip)) (buffers (now (old .exit)) (now (new .exit)) (now (states .exit)) (now (numbers .exit)) (now (picture .exit)) (now (rows .exit)))
+        ≡ calls.dataCall at byte (world (takenOf chip) (buffers (now (old .entry)) (now (new .entry)) (now (states .entry)) (now (numbers .entry)) (now (picture .entry)) (now (rows .entry)))) ⌝ }
+    ensures { λ r. ⌜ (r .refused ≡ tests.turnedBack false at (world (takenOf chip) (buffers (now (old .entry)) (now (new .entry)) (now (states .entry)) (now (numbers .entry)) (now (picture .entry)) (now (rows .entry)))))
+        × (r .answer ≡ 257) ⌝ }
+{
+    let p = taken(chip);
+    no_read(write_data(p, at, byte, old, new, states, numbers, picture, rows))
+}
+
+// The next byte of a read.
+#[no_mangle]
+pub extern "C" fn jollanqe_read(
+    chip: Handed,
+    at: u64,
+    old: &mut [u8],
+    new: &mut [u8],
+    states: &mut [i64],
+    numbers: &mut [u8],
+    picture: &mut [u8],
+    rows: &mut [u64],
+) -> Given
+    ensures { λ r. ⌜ world (takenOf (r .chip)) (buffers (now (old .exit)) (now (new .exit)) (now (states .exit)) (now (numbers .exit)) (now (picture .exit)) (now (rows .exit)))
+        ≡ calls.readCall at (world (takenOf chip) (buffers (now (old .entry)) (now (new .entry)) (now (states .entry)) (now (numbers .entry)) (now (picture .entry)) (now (rows .entry)))) ⌝ }
+    ensures { λ r. ⌜ (r .refused ≡ tests.turnedBack false at (world (takenOf chip) (buffers (now (old .entry)) (now (new .entry)) (now (states .entry)) (now (numbers .entry)) (now (picture .entry)) (now (rows .entry)))))
+        × (r .answer ≡ runs.readNumber (calls.readAnswer at (world (takenOf chip) (buffers (now (old .entry)) (now (new .entry)) (now (states .entry)) (now (numbers .entry)) (now (picture .entry)) (now (rows .entry)))))) ⌝ }
+{
+    let p = taken(chip);
+    let a = read_data(p, at, old, new, states, numbers, picture, rows);
+    let q = a.chip;
+    let byte = a.byte;
+    give(q, a.refused, read_number(byte))
+}
+
+// The reset line goes low (asserted) or is released.
+#[no_mangle]
+pub extern "C" fn jollanqe_reset(
+    chip: Handed,
+    at: u64,
+    asserted: bool,
+    old: &mut [u8],
+    new: &mut [u8],
+    states: &mut [i64],
+    numbers: &mut [u8],
+    picture: &mut [u8],
+    rows: &mut [u64],
+) -> Given
+    ensures { λ r. ⌜ world (takenOf (r .chip)) (buffers (now (old .exit)) (now (new .exit)) (now (states .exit)) (now (numbers .exit)) (now (picture .exit)) (now (rows .exit)))
+        ≡ calls.resetCall at asserted (world (takenOf chip) (buffers (now (old .entry)) (now (new .entry)) (now (states .entry)) (now (numbers .entry)) (now (picture .entry)) (now (rows .entry)))) ⌝ }
+    ensures { λ r. ⌜ (r .refused ≡ tests.turnedBack asserted at (world (takenOf chip) (buffers (now (old .entry)) (now (new .entry)) (now (states .entry)) (now (numbers .entry)) (now (picture .entry)) (now (rows .entry)))))
+        × (r .answer ≡ 257) ⌝ }
+{
+    let p = taken(chip);
+    no_read(set_reset(p, at, asserted, old, new, states, numbers, picture, rows))
+}
+
+// Brings the chip to a time.
+#[no_mangle]
+pub extern "C" fn jollanqe_advance(
+    chip: Handed,
+    at: u64,
+    old: &mut [u8],
+    new: &mut [u8],
+    states: &mut [i64],
+    numbers: &mut [u8],
+    picture: &mut [u8],
+    rows: &mut [u64],
+) -> Given
+    ensures { λ r. ⌜ world (takenOf (r .chip)) (buffers (now (old .exit)) (now (new .exit)) (now (states .exit)) (now (numbers .exit)) (now (picture .exit)) (now (rows .exit)))
+        ≡ calls.advanceCall at (world (takenOf chip) (buffers (now (old .entry)) (now (new .entry)) (now (states .entry)) (now (numbers .entry)) (now (picture .entry)) (now (rows .entry)))) ⌝ }
+    ensures { λ r. ⌜ (r .refused ≡ tests.turnedBack false at (world (takenOf chip) (buffers (now (old .entry)) (now (new .entry)) (now (states .entry)) (now (numbers .entry)) (now (picture .entry)) (now (rows .entry)))))
+        × (r .answer ≡ 257) ⌝ }
+{
+    let p = taken(chip);
+    no_read(advance(p, at, old, new, states, numbers, picture, rows))
+}
+
+// A run of events, ten bytes each; the refusal is the first one's.
+#[no_mangle]
+pub extern "C" fn jollanqe_run(
+    chip: Handed,
+    events: &[u8],
+    answers: &mut [u16],
+    old: &mut [u8],
+    new: &mut [u8],
+    states: &mut [i64],
+    numbers: &mut [u8],
+    picture: &mut [u8],
+    rows: &mut [u64],
+) -> Given
+    ensures { λ r. ⌜ world (takenOf (r .chip)) (buffers (now (old .exit)) (now (new .exit)) (now (states .exit)) (now (numbers .exit)) (now (picture .exit)) (now (rows .exit)))
+        ≡ runs.ranTo (now (events .entry)) (runs.eventsIn (now (events .entry))) (world (takenOf chip) (buffers (now (old .entry)) (now (new .entry)) (now (states .entry)) (now (numbers .entry)) (now (picture .entry)) (now (rows .entry)))) ⌝ }
+    ensures { λ r. ⌜ (now (answers .exit) ≡ runs.answersTo (now (events .entry)) (runs.eventsIn (now (events .entry))) (world (takenOf chip) (buffers (now (old .entry)) (now (new .entry)) (now (states .entry)) (now (numbers .entry)) (now (picture .entry)) (now (rows .entry)))) (now (answers .entry)))
+        × (r .refused ≡ runs.refusedIn (now (events .entry)) (runs.eventsIn (now (events .entry))) (world (takenOf chip) (buffers (now (old .entry)) (now (new .entry)) (now (states .entry)) (now (numbers .entry)) (now (picture .entry)) (now (rows .entry)))))
+        × (r .answer ≡ 257) ⌝ }
+{
+    let p = taken(chip);
+    let ran = run(p, events, answers, old, new, states, numbers, picture, rows);
+    let q = ran.chip;
+    give(q, ran.refused, NO_READ)
+}
+
+// The rows are taken: the answer is how many.
+#[no_mangle]
+pub extern "C" fn jollanqe_take(chip: Handed, rows: &[u64]) -> Given
+    ensures { λ r. ⌜ ((b : Buffers) → world (takenOf (r .chip)) (withRows (now (rows .entry)) b) ≡ calls.takeCall (world (takenOf chip) (withRows (now (rows .entry)) b)))
+        × (r .refused ≡ calls.takingRefused (takenOf chip) (now (rows .entry))) × (r .answer ≡ calls.takenRows (takenOf chip) (now (rows .entry))) ⌝ }
+{
+    let p = taken(chip);
+    let t = take_diagnostics(p, rows);
+    let q = t.chip;
+    give(q, t.refused, t.count)
+}
+
+// Whether `BUSY_N` is low at a time: 1 where it is.
+#[no_mangle]
+pub extern "C" fn jollanqe_busy(chip: Handed, at: u64) -> Asked
+    ensures { λ r. ⌜ r ≡ rule.busyAsked (takenOf chip) at ⌝ }
+{
+    let p = taken(chip);
+    let b = busy_pin(p, at);
+    Asked {
+        value: b.busy as u64,
+        refused: b.refused,
+        known: b.refused == 0,
+    }
+}
+
+fn due_asked(refused: u8, due: Due) -> Asked
+    ensures { λ r. ⌜ r ≡ rule.dueAsked refused due ⌝ }
+{
+    match due {
+        Due::Never => Asked {
+            value: 0,
+            refused,
+            known: false,
+        },
+        Due::At(time) => Asked {
+            value: time,
+            refused,
+            known: true,
+        },
+    }
+}
+
+// The next time that `BUSY_N` rises or a picture is published; none where nothing runs.
+#[no_mangle]
+pub extern "C" fn jollanqe_deadline(chip: Handed) -> Asked
+    ensures { λ r. ⌜ r ≡ rule.deadlineAsked (takenOf chip) ⌝ }
+{
+    let p = taken(chip);
+    let d = next_deadline(p);
+    let due = d.due;
+    due_asked(d.refused, due)
+}
+
+fn found_asked(refused: u8, found: Found) -> Asked
+    ensures { λ r. ⌜ r ≡ rule.foundAsked refused found ⌝ }
+{
+    match found {
+        Found::Bit(bit) => Asked {
+            value: bit as u64,
+            refused,
+            known: true,
+        },
+        Found::Nothing => Asked {
+            value: 0,
+            refused,
+            known: false,
+        },
+    }
+}
+
+// A pixel of the lent plane; none past the RAM.
+#[no_mangle]
+pub extern "C" fn jollanqe_bit(chip: Handed, plane: &[u8], x: u16, y: u16) -> Asked
+    ensures { λ r. ⌜ r ≡ rule.bitAsked (takenOf chip) (now (plane .entry)) x y ⌝ }
+{
+    let p = taken(chip);
+    let b = ram_bit(p, plane, x, y);
+    let found = b.found;
+    found_asked(b.refused, found)
 }

@@ -1,0 +1,55 @@
+-- `exports::jollanqe_command` meets its contract: the call on the record that was taken, handed over.
+use mathlib.Core.Bool.{false}
+use Rattle.controller.specs.TurnedBack.{turnedBack}
+use Rattle.controller.specs.Calls.{commandCall}
+use Rattle.exports.proofs.Passed.{passed}
+use Rattle.controller.specs.World.{World, Buffers, buffers}
+use mathlib.Core.Path.{refl}
+use borrow.Author.Needs.{needs}
+use Rattle.exports.proofs.jollanqe_command.Statement.{statement}
+use Rattle.exports.proofs.jollanqe_command.Tie as tie
+
+taken-requires : tie.Need-taken-requires
+taken-requires c κs = search needs
+
+write-command-requires : tie.Need-write-command-requires
+write-command-requires c κs = search needs
+
+no-read-requires : tie.Need-no-read-requires
+no-read-requires c κs = search needs
+
+same-length : tie.Need-same-length
+same-length c = search needs
+
+same-length-2 : tie.Need-same-length-2
+same-length-2 c = search needs
+
+same-length-3 : tie.Need-same-length-3
+same-length-3 c = search needs
+
+same-length-4 : tie.Need-same-length-4
+same-length-4 c = search needs
+
+same-length-5 : tie.Need-same-length-5
+same-length-5 c = search needs
+
+same-length-6 : tie.Need-same-length-6
+same-length-6 c = search needs
+
+returns : tie.Need-returns
+returns c = let g = c .before .before .before .before .before .before .before .before .before .before .before .before .before .before .before .before .before .before .before .before .before .before .before .before .before .args in let b : Buffers = buffers (g .old .now) (g .new .now) (g .states .now) (g .numbers .now) (g .picture .now) (g .rows .now) in let a = c .before .before .before .before .before .before .before .before .before .before .before .before .write-command in passed (λ (v : World). commandCall (g .at) (g .command) v) (λ (v : World). turnedBack false (g .at) v) (λ (v : World). 257) (g .chip) _ _ _ _ _ b _ (c .before .before .before .before .before .before .before .before .before .before .before .before .before .before .before .before .before .before .before .taken .ensures) (c .no-read .ensures) (a .ensures .0) (a .ensures .1) refl
+
+pub jollanqe-command-spec : {M : Type 1} → statement M
+jollanqe-command-spec =
+    tie.close
+    (tie.spec
+    taken-requires
+    write-command-requires
+    no-read-requires
+    same-length
+    same-length-2
+    same-length-3
+    same-length-4
+    same-length-5
+    same-length-6
+    returns)

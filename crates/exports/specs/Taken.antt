@@ -1,0 +1,100 @@
+-- The controller's record of the numbers that cross from another language: one definition an enum, and a number past the last case stands for the last.
+use Prim.Native.Nat.{ℕ}
+use lib.Dec.{eqb}
+use Rattle.base.specs.Pick.{pick}
+use Rattle.command.specs.declared.kinds.Kind.{Kind}
+use Rattle.command.specs.declared.kinds.Kind.the-variants as kinds
+use Rattle.command.specs.declared.kinds.Params.{Params}
+use Rattle.command.specs.declared.kinds.Params.the-variants as bytes
+use Rattle.config.specs.declared.Uc8253Config.{Uc8253Config}
+use Rattle.config.specs.declared.Variant.{Variant}
+use Rattle.config.specs.declared.Variant.the-variants as variants
+use Rattle.glass.specs.declared.PanelImage.{PanelImage}
+use Rattle.glass.specs.declared.RefreshKind.{RefreshKind}
+use Rattle.glass.specs.declared.RefreshKind.the-variants as shown
+use Rattle.controller.specs.declared.Active.{Active}
+use Rattle.controller.specs.declared.Current.{Current}
+use Rattle.controller.specs.declared.Current.the-variants as currents
+use Rattle.controller.specs.declared.Mode.{Mode}
+use Rattle.controller.specs.declared.Operation.{Operation}
+use Rattle.controller.specs.declared.Power.{Power}
+use Rattle.controller.specs.declared.Power.the-variants as powers
+use Rattle.controller.specs.declared.Refresh.{Refresh}
+use Rattle.controller.specs.declared.Stage.{Stage}
+use Rattle.controller.specs.declared.Uc8253.{Uc8253}
+use Rattle.controller.specs.declared.Work.{Work}
+use Rattle.controller.specs.declared.Work.the-variants as works
+use Rattle.exports.specs.declared.handed.HandedActive.{HandedActive}
+use Rattle.exports.specs.declared.handed.HandedOperation.{HandedOperation}
+use Rattle.exports.specs.declared.handed.HandedImage.{HandedImage}
+use Rattle.exports.specs.declared.handed.Handed.{Handed}
+
+unfoldable pub variantOf : ℕ → Variant
+variantOf n = pick (eqb n 0) variants.Uc8253 variants.Uc8279d
+
+unfoldable pub powerOf : ℕ → Power
+powerOf n = pick (eqb n 0) powers.Running (pick (eqb n 1) powers.Asleep powers.InReset)
+
+unfoldable pub paramsOf : ℕ → ℕ → ℕ → Params
+paramsOf n least most = pick (eqb n 0) (bytes.Exactly least) (pick (eqb n 1) (bytes.Between least most) bytes.Stream)
+
+unfoldable pub kindOf : ℕ → Params → Kind
+kindOf n p = pick (eqb n 0) (kinds.Write p) (pick (eqb n 1) kinds.Read (pick (eqb n 2) (kinds.Unsupported p) kinds.Unknown))
+
+unfoldable pub currentOf : ℕ → Active → Current
+currentOf n a = pick (eqb n 0) currents.Idle (pick (eqb n 1) currents.Ignoring (currents.Active a))
+
+-- of a refresh and of a picture
+unfoldable pub refreshKindOf : ℕ → RefreshKind
+refreshKindOf n = pick (eqb n 0) shown.PowerOn (pick (eqb n 1) shown.Full shown.Partial)
+
+unfoldable pub workOf : ℕ → Refresh → Work
+workOf n r =
+    pick (eqb n 0) works.Nothing
+    (pick (eqb n 1) works.PowerOn
+    (pick (eqb n 2) works.PowerOff
+    (pick (eqb n 3) works.DeepSleep
+    (pick (eqb n 4) works.SoftReset
+    (pick (eqb n 5) works.HardwareReset
+    (works.Refresh r))))))
+
+abbrev pub activeOf : HandedActive → Active
+activeOf h = record {
+  command = h .command;
+  kind = kindOf (h .kind) (paramsOf (h .params) (h .least) (h .most));
+  received = h .received;
+  read = h .read;
+  cursor = h .cursor;
+  «extra_reported» = h .«extra_reported»;
+  «past_reported» = h .«past_reported»;
+}
+
+abbrev pub operationOf : HandedOperation → Operation
+operationOf h = record { work = workOf (h .work) (record { area = h .area; kind = refreshKindOf (h .kind) }); started = h .started; until = h .until }
+
+abbrev pub imageOf : HandedImage → PanelImage
+imageOf h = record { width = h .width; height = h .height; generation = h .generation; kind = refreshKindOf (h .kind); interrupted = h .interrupted; started = h .started; at = h .at }
+
+abbrev pub configOf : Handed → Uc8253Config
+configOf h = record { variant = variantOf (h .variant); panel = h .panel; optics = h .optics; timing = h .timing; «ambient_celsius» = h .ambient }
+
+abbrev pub modeOf : Handed → Mode
+modeOf h = record { power = powerOf (h .power); powered = h .powered; «data_flag» = h .«data_flag» }
+
+abbrev pub stageOf : Handed → Stage
+stageOf h = record { current = currentOf (h .current) (activeOf (h .active)) }
+
+-- the controller's record
+unfoldable pub takenOf : Handed → Uc8253
+takenOf h = record {
+  config = configOf h;
+  regs = h .regs;
+  luts = h .luts;
+  mode = modeOf h;
+  stage = stageOf h;
+  operation = operationOf (h .operation);
+  waveform = h .waveform;
+  image = imageOf (h .image);
+  log = h .log;
+  now = h .now;
+}
