@@ -17,7 +17,9 @@ found-asked-requires c κs = search needs
 
 returns : tie.Need-returns
 unfolding bitAsked
-returns c = let g = c .before .before .before .before .args in c .found-asked .ensures ∙ ((λ i. foundAsked (c .before .ram-bit .ensures .0 i) (c .before .ram-bit .ensures .1 i)) ∙ ap (λ (s : Uc8253). bitAsked s (g .plane .now) (g .x) (g .y)) (c .before .before .taken .ensures))
+returns c =
+    let g = c .before .before .before .before .args in
+    c .found-asked .ensures ∙ ((λ i. foundAsked (c .before .ram-bit .ensures .0 i) (c .before .ram-bit .ensures .1 i)) ∙ ap (λ (s : Uc8253). bitAsked s (g .plane .now) (g .x) (g .y)) (c .before .before .taken .ensures))
 
 pub jollanqe-bit-spec : {M : Type 1} → statement M
 jollanqe-bit-spec =

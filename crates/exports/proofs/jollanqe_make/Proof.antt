@@ -37,7 +37,13 @@ same-length-6 : tie.Need-same-length-6
 same-length-6 c = search needs
 
 returns : tie.Need-returns
-returns c = let g = c .before .before .before .before .before .before .before .before .before .before .before .before .before .before .before .before .before .before .before .before .before .before .before .before .before .before .args in let b : Buffers = buffers (g .old .now) (g .new .now) (g .states .now) (g .numbers .now) (g .picture .now) (g .rows .now) in let a = c .before .before .before .before .before .before .before .before .before .before .before .before .power-on in let r = c .no-read .ensures in let e = c .before .before .before .before .before .before .before .before .before .before .before .before .before .before .before .before .before .before .before .config .ensures in (world-given _ _ _ _ _ r (a .ensures .0 ∙ ap (λ (s : Uc8253Config). made s b) e), (refused-given _ _ _ _ r ∙ (a .ensures .1 ∙ ap (λ (s : Uc8253Config). makingRefused s b) e), answer-given _ _ _ _ r))
+returns c =
+    let g = c .before .before .before .before .before .before .before .before .before .before .before .before .before .before .before .before .before .before .before .before .before .before .before .before .before .before .args in
+    let b : Buffers = buffers (g .old .now) (g .new .now) (g .states .now) (g .numbers .now) (g .picture .now) (g .rows .now) in
+    let a = c .before .before .before .before .before .before .before .before .before .before .before .before .power-on in
+    let r = c .no-read .ensures in
+    let e = c .before .before .before .before .before .before .before .before .before .before .before .before .before .before .before .before .before .before .before .config .ensures in
+    (world-given _ _ _ _ _ r (a .ensures .0 ∙ ap (λ (s : Uc8253Config). made s b) e), (refused-given _ _ _ _ r ∙ (a .ensures .1 ∙ ap (λ (s : Uc8253Config). makingRefused s b) e), answer-given _ _ _ _ r))
 
 pub jollanqe-make-spec : {M : Type 1} → statement M
 jollanqe-make-spec =

@@ -38,7 +38,14 @@ same-length-7 : tie.Need-same-length-7
 same-length-7 c = search needs
 
 returns : tie.Need-returns
-returns c = let g = c .before .before .before .before .before .before .before .before .before .before .before .before .before .before .before .before .before .before .before .before .before .before .before .before .before .before .before .before .before .before .before .args in let b : Buffers = buffers (g .old .now) (g .new .now) (g .states .now) (g .numbers .now) (g .picture .now) (g .rows .now) in let a = c .before .before .before .before .before .before .before .before .before .before .before .before .before .before .before .run in let r = c .give .ensures in let e = c .before .before .before .before .before .before .before .before .before .before .before .before .before .before .before .before .before .before .before .before .before .before .before .taken .ensures in let n = eventsIn (g .events .now) in (world-given _ _ _ _ _ r (of-taken (λ (v : World). ranTo (g .events .now) n v) _ _ b e (a .ensures .0)), (of-taken (λ (v : World). answersTo (g .events .now) n v (g .answers .now)) _ _ b e (a .ensures .1 .0), refused-given _ _ _ _ r ∙ of-taken (λ (v : World). refusedIn (g .events .now) n v) _ _ b e (a .ensures .1 .1), answer-given _ _ _ _ r))
+returns c =
+    let g = c .before .before .before .before .before .before .before .before .before .before .before .before .before .before .before .before .before .before .before .before .before .before .before .before .before .before .before .before .before .before .before .args in
+    let b : Buffers = buffers (g .old .now) (g .new .now) (g .states .now) (g .numbers .now) (g .picture .now) (g .rows .now) in
+    let a = c .before .before .before .before .before .before .before .before .before .before .before .before .before .before .before .run in
+    let r = c .give .ensures in
+    let e = c .before .before .before .before .before .before .before .before .before .before .before .before .before .before .before .before .before .before .before .before .before .before .before .taken .ensures in
+    let n = eventsIn (g .events .now) in
+    (world-given _ _ _ _ _ r (of-taken (λ (v : World). ranTo (g .events .now) n v) _ _ b e (a .ensures .0)), (of-taken (λ (v : World). answersTo (g .events .now) n v (g .answers .now)) _ _ b e (a .ensures .1 .0), refused-given _ _ _ _ r ∙ of-taken (λ (v : World). refusedIn (g .events .now) n v) _ _ b e (a .ensures .1 .1), answer-given _ _ _ _ r))
 
 pub jollanqe-run-spec : {M : Type 1} → statement M
 jollanqe-run-spec =

@@ -18,7 +18,12 @@ give-requires : tie.Need-give-requires
 give-requires c κs = search needs
 
 returns : tie.Need-returns
-returns c = let g = c .before .before .before .before .before .args in let a = c .before .before .take-diagnostics in let r = c .give .ensures in let e = c .before .before .before .taken .ensures in ((λ (b : Buffers). world-given _ _ _ _ (withRows (g .rows .now) b) r (of-taken (λ (v : World). takeCall v) _ _ (withRows (g .rows .now) b) e (a .ensures .0 b))), refused-given _ _ _ _ r ∙ (a .ensures .1 ∙ ap (λ (s : Uc8253). takingRefused s (g .rows .now)) e), answer-given _ _ _ _ r ∙ (a .ensures .2 ∙ ap (λ (s : Uc8253). takenRows s (g .rows .now)) e))
+returns c =
+    let g = c .before .before .before .before .before .args in
+    let a = c .before .before .take-diagnostics in
+    let r = c .give .ensures in
+    let e = c .before .before .before .taken .ensures in
+    ((λ (b : Buffers). world-given _ _ _ _ (withRows (g .rows .now) b) r (of-taken (λ (v : World). takeCall v) _ _ (withRows (g .rows .now) b) e (a .ensures .0 b))), refused-given _ _ _ _ r ∙ (a .ensures .1 ∙ ap (λ (s : Uc8253). takingRefused s (g .rows .now)) e), answer-given _ _ _ _ r ∙ (a .ensures .2 ∙ ap (λ (s : Uc8253). takenRows s (g .rows .now)) e))
 
 pub jollanqe-take-spec : {M : Type 1} → statement M
 jollanqe-take-spec =
