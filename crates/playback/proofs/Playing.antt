@@ -1,16 +1,14 @@
 -- The two ways of a capture: refused, with zeros and nothing changed; or made and run, and then no event is turned back.
-use mathlib.Core.Path.{_≡_, refl, sym, ap, subst, _∙_}
+use mathlib.Core.Path.{_≡_, refl, sym, ap, _∙_}
 use mathlib.Core.Bool.{Bool, true, false}
 use mathlib.Core.List.{List}
 use Prim.Native.Nat.{ℕ, _+_, _<_}
 use lib.Dec.{eqb}
-use lib.ListN.{length, getD, take, length-take}
+use lib.ListN.{take, length-take}
 use lib.Seq.{getD-take}
 use native.Mathlib.Omega.{arith}
 use borrow.Author.Tests.{eq-eqb, ne-eqb, eqb-false}
-use Rattle.base.specs.Pick.{pick}
 use Rattle.config.specs.declared.Uc8253Config.{Uc8253Config}
-use Rattle.config.specs.Refusal.{refusal, emptyPanel}
 use Rattle.capture.specs.Layout.{offsetOf, configIn}
 use Rattle.capture.specs.Refused.{captureRefused, eventsEnd}
 use Rattle.controller.specs.World.{World, Buffers, world}
@@ -20,18 +18,6 @@ use Rattle.controller.proofs.Sound.{sound-made}
 use Rattle.events.specs.Events.{eventsIn, ranTo, answersTo, refusedIn}
 use Rattle.events.proofs.RunLaws.{Bytes, byte-anywhere, run-taken}
 use Rattle.playback.specs.Played.{eventsOf, makingOf, playRefused, playedTaken, answersTaken, played, answersPlayed}
-
--- ---- a making of zeros is refused
-zeros-refused : (b : Buffers) → makingRefused (zeros .config) b ≡ 1
-unfolding makingRefused refusal emptyPanel zeros
-zeros-refused b = refl
-
-made-none : (b : Buffers) → made (zeros .config) b ≡ world zeros b
-unfolding made
-made-none b = rw (zeros-refused b)
-
-pub made-zeros : (c : Uc8253Config) (b : Buffers) → c ≡ zeros .config → made c b ≡ world zeros b
-made-zeros c b e = ap (λ (g : Uc8253Config). made g b) e ∙ made-none b
 
 -- ---- the making of a file that passes its own tests
 module _ (file : List ℕ) (b : Buffers) (c : Uc8253Config) (n : ℕ) (e : c ≡ configIn file) (r : n ≡ makingRefused c b) where

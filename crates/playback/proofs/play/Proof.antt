@@ -1,6 +1,8 @@
 -- `playback::play` meets its contract: refused, or made and run.
+use mathlib.Core.Path.{refl, ap}
+use Rattle.controller.specs.declared.Uc8253.{Uc8253}
+use Rattle.controller.specs.World.{Buffers, buffers, world}
 use Rattle.playback.proofs.Playing.{play-no, play-no-answers, play-no-number, play-yes, play-yes-answers, play-yes-number}
-use Rattle.controller.specs.World.{Buffers, buffers}
 use borrow.Author.Needs.{needs}
 use Rattle.playback.proofs.play.Statement.{statement}
 use Rattle.playback.proofs.play.Tie as tie
@@ -8,8 +10,14 @@ use Rattle.playback.proofs.play.Tie as tie
 refused-requires : tie.Need-refused-requires
 refused-requires c κs = search needs
 
-turned-back-requires : tie.Need-turned-back-requires
-turned-back-requires c κs = search needs
+zeros-requires : tie.Need-zeros-requires
+zeros-requires c κs = search needs
+
+returns : tie.Need-returns
+returns c = let g = c .before .before .before .before .before .before .before .before .before .before .args in let b : Buffers = buffers (g .old .now) (g .new .now) (g .states .now) (g .numbers .now) (g .picture .now) (g .rows .now) in let e = c .before .before .refused .ensures in let h = c .before .if1 .taken in (play-no (g .file .now) b _ e h _ (ap (λ (p : Uc8253). world p b) (c .zeros .ensures)), (play-no-answers (g .file .now) b _ e h (g .answers .now), play-no-number (g .file .now) b _ e h _ refl))
+
+play-taken-requires : tie.Need-play-taken-requires
+play-taken-requires c κs = search needs
 
 same-length : tie.Need-same-length
 same-length c = search needs
@@ -29,32 +37,8 @@ same-length-5 c = search needs
 same-length-6 : tie.Need-same-length-6
 same-length-6 c = search needs
 
-returns : tie.Need-returns
-returns c = let g = c .before .before .before .before .before .before .before .before .before .before .before .before .before .before .before .before .before .before .before .before .before .before .before .before .before .before .before .args in let b : Buffers = buffers (g .old .now) (g .new .now) (g .states .now) (g .numbers .now) (g .picture .now) (g .rows .now) in let e = c .before .before .before .before .before .before .before .before .before .before .before .before .before .before .before .before .before .before .before .refused .ensures in let h = c .before .before .before .before .before .before .before .before .before .before .before .before .before .before .before .before .before .before .if1 .taken in (play-no (g .file .now) b _ e h _ (c .before .before .before .before .before .before .before .before .before .before .before .turned-back .ensures .0), (play-no-answers (g .file .now) b _ e h (g .answers .now), play-no-number (g .file .now) b _ e h _ (c .before .before .before .before .before .before .before .before .before .before .before .turned-back .ensures .1)))
-
-play-taken-requires : tie.Need-play-taken-requires
-play-taken-requires c κs = search needs
-
 same-length-7 : tie.Need-same-length-7
 same-length-7 c = search needs
-
-same-length-8 : tie.Need-same-length-8
-same-length-8 c = search needs
-
-same-length-9 : tie.Need-same-length-9
-same-length-9 c = search needs
-
-same-length-10 : tie.Need-same-length-10
-same-length-10 c = search needs
-
-same-length-11 : tie.Need-same-length-11
-same-length-11 c = search needs
-
-same-length-12 : tie.Need-same-length-12
-same-length-12 c = search needs
-
-same-length-13 : tie.Need-same-length-13
-same-length-13 c = search needs
 
 returns-2 : tie.Need-returns-2
 returns-2 c = let g = c .before .before .before .before .before .before .before .before .before .before .before .before .before .before .before .before .before .before .before .before .before .before .before .before .before .before .before .before .before .before .args in let b : Buffers = buffers (g .old .now) (g .new .now) (g .states .now) (g .numbers .now) (g .picture .now) (g .rows .now) in let e = c .before .before .before .before .before .before .before .before .before .before .before .before .before .before .before .before .before .before .before .before .before .before .refused .ensures in let z = c .before .before .before .before .before .before .before .before .before .before .before .before .before .before .before .before .before .before .before .before .before .if1 .left in (play-yes (g .file .now) b _ e z _ (c .before .before .before .before .before .before .before .before .before .before .before .before .before .play-taken .ensures .0), (play-yes-answers (g .file .now) b _ e z (g .answers .now) _ (c .before .before .before .before .before .before .before .before .before .before .before .before .before .play-taken .ensures .1 .0), play-yes-number (g .file .now) b _ e z _ (c .before .before .before .before .before .before .before .before .before .before .before .before .before .play-taken .ensures .1 .1)))
@@ -64,20 +48,14 @@ play-spec =
     tie.close
     (tie.spec
     refused-requires
-    turned-back-requires
+    zeros-requires
+    returns
+    play-taken-requires
     same-length
     same-length-2
     same-length-3
     same-length-4
     same-length-5
     same-length-6
-    returns
-    play-taken-requires
     same-length-7
-    same-length-8
-    same-length-9
-    same-length-10
-    same-length-11
-    same-length-12
-    same-length-13
     returns-2)
