@@ -56,7 +56,7 @@ impl Event {
         }
     }
 
-    fn encode(self, file: &mut Vec<u8>) {
+    pub fn encode(self, file: &mut Vec<u8>) {
         file.extend(self.time.to_le_bytes());
         file.extend([self.kind, self.value]);
     }

@@ -1,32 +1,10 @@
 //! `oracle`: runs captures through the published Rust of the controller, and makes captures.
 
-mod answers;
-mod capture;
-mod cases;
-mod generate;
-mod glass;
-mod list;
-mod names;
-mod picture;
-mod planes;
-mod refreshes;
-mod refusal;
-mod registers;
-mod replays;
-mod rng;
-mod rows;
-mod run;
-mod script;
-mod stats;
-mod tally;
-#[cfg(test)]
-mod tests;
-mod trace;
-mod watch;
-
 use std::io::{self, ErrorKind, Read, Write};
 use std::path::Path;
 use std::process::ExitCode;
+
+use oracle::{answers, cases, generate, list, picture, replays, run, stats, trace};
 
 const USAGE: &str = "usage: oracle run | trace | list | picture   (a capture on standard input)
        oracle make SEED

@@ -11,7 +11,8 @@ impl Rng {
         Rng { state: seed }
     }
 
-    pub fn next(&mut self) -> u64 {
+    /// Any number.
+    pub fn any(&mut self) -> u64 {
         self.state = self.state.wrapping_add(STEP);
         let mut mixed = self.state;
         mixed = (mixed ^ (mixed >> 30)).wrapping_mul(0xBF58_476D_1CE4_E5B9);
@@ -20,12 +21,12 @@ impl Rng {
     }
 
     pub fn byte(&mut self) -> u8 {
-        self.next().to_le_bytes()[7]
+        self.any().to_le_bytes()[7]
     }
 
     /// A number below `end`, which is not 0.
     pub fn below(&mut self, end: u64) -> u64 {
-        let product = u128::from(self.next()) * u128::from(end);
+        let product = u128::from(self.any()) * u128::from(end);
         (product >> 64) as u64
     }
 
@@ -33,7 +34,7 @@ impl Rng {
     pub fn between(&mut self, first: u64, last: u64) -> u64 {
         match (last - first).checked_add(1) {
             Some(count) => first + self.below(count),
-            None => self.next(),
+            None => self.any(),
         }
     }
 
@@ -48,7 +49,7 @@ impl Rng {
     /// A number of 1 to `bits` bits, each length as likely: small and huge ones both come.
     pub fn wide(&mut self, bits: u64) -> u64 {
         let shift = 64 - self.between(1, bits);
-        (self.next() | 1 << 63) >> shift
+        (self.any() | 1 << 63) >> shift
     }
 
     /// One of `edges` or, as often, a wide number, held to `first` .. `last`.

@@ -1,6 +1,10 @@
 //! Captures written by hand: a configuration, then events in the order they are said.
 
-use crate::capture::{self, Capture, Configuration, Event, POSITIVE_DRIVES_BLACK};
+use chips::uc8253::Uc8253Config;
+
+use crate::capture::{
+    self, COLUMNS_REVERSED, Capture, Configuration, Event, POSITIVE_DRIVES_BLACK, ROWS_REVERSED,
+};
 
 /// The configuration of document 01's example: a frame of the default VDH or VDL is half a swing.
 pub fn example_panel() -> Configuration {
@@ -18,6 +22,29 @@ pub fn example_panel() -> Configuration {
         soft_reset: 0,
         hardware_reset: 0,
         periods: [1_000; 32],
+    }
+}
+
+/// The X3 of the first batch, as inkemu configures it.
+pub fn x3_panel() -> Configuration {
+    let of = Uc8253Config::xteink_x3();
+    let flag = |is: bool, bit: u8| if is { bit } else { 0 };
+    Configuration {
+        variant: 0,
+        flags: flag(of.panel.rows_reversed, ROWS_REVERSED)
+            | flag(of.panel.columns_reversed, COLUMNS_REVERSED)
+            | flag(of.optics.positive_drives_black, POSITIVE_DRIVES_BLACK),
+        sources: of.panel.sources,
+        gates: of.panel.gates,
+        initial_grey: of.optics.initial_gray,
+        ambient: of.ambient_celsius.to_le_bytes()[0],
+        full_swing: of.optics.full_swing,
+        power_on: of.timing.power_on,
+        power_off: of.timing.power_off,
+        deep_sleep: of.timing.deep_sleep,
+        soft_reset: of.timing.soft_reset,
+        hardware_reset: of.timing.hardware_reset,
+        periods: of.timing.frame_period,
     }
 }
 

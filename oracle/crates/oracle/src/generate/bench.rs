@@ -1,5 +1,6 @@
 //! A capture under construction, with the published chip running beside it.
 
+use chips::lines::ONE_GIGAHERTZ;
 use chips::uc8253::Uc8253;
 
 use crate::capture::{self, Capture, Configuration, Event, MOST_EVENTS};
@@ -35,6 +36,8 @@ pub struct Bench {
     /// The largest time sent: the chip's own clock.
     now: u64,
     chip: Uc8253,
+    /// The most events, and those so far.
+    most: usize,
     events: Vec<Event>,
     /// What the session believes to be set: the frame-rate code, the area of start and
     /// resolution, and the area that streams fill.
@@ -50,8 +53,18 @@ pub const WHOLE_RAM: Area = Area {
 pub const RESET_PLL: u8 = 6;
 
 impl Bench {
+    /// A session whose capture the program takes.
     pub fn new(panel: Panel) -> Bench {
-        let chip = run::make(&panel.configuration).expect("a panel is made to be accepted");
+        Bench {
+            most: MOST_EVENTS,
+            ..Bench::long(panel)
+        }
+    }
+
+    /// A session of any length, on a panel of any size.
+    pub fn long(panel: Panel) -> Bench {
+        let chip = Uc8253::new(panel.configuration.chip(), ONE_GIGAHERTZ)
+            .expect("a panel is made to be in range");
         Bench {
             rng: panel.rng,
             configuration: panel.configuration,
@@ -60,6 +73,7 @@ impl Bench {
             pace: panel.pace,
             now: 0,
             chip,
+            most: usize::MAX,
             events: Vec::new(),
             pll: RESET_PLL,
             active: WHOLE_RAM,
@@ -80,7 +94,7 @@ impl Bench {
 
     /// Sends an event at the clock, unless the capture is full.
     fn event(&mut self, kind: u8, value: u8) {
-        if self.events.len() == MOST_EVENTS {
+        if self.events.len() == self.most {
             return;
         }
         let time = self.clock;

@@ -15,7 +15,7 @@ const LONGEST_SOUND: usize = 60;
 pub fn damaged(rng: Rng) -> Vec<u8> {
     let mut bench = Bench::new(panel::matched(rng));
     session::turns(&mut bench);
-    let mut rng = Rng::new(bench.rng.next());
+    let mut rng = Rng::new(bench.rng.any());
     let mut capture = bench.capture();
     capture
         .events

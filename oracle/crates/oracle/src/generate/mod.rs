@@ -1,13 +1,13 @@
 //! Captures made from a seed: realistic sessions, hostile ones and damaged files.
 
-mod bench;
+pub mod bench;
 mod damage;
-mod hostile;
-mod panel;
-mod session;
+pub mod hostile;
+pub mod panel;
+pub mod session;
 mod settings;
 pub mod tables;
-mod window;
+pub mod window;
 
 use crate::capture::{Capture, MOST_EVENTS};
 use crate::rng::Rng;

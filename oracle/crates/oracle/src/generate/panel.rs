@@ -6,8 +6,8 @@ use crate::rng::Rng;
 use super::bench::Panel;
 
 /// Millivolts of the default VDH.
-const USUAL_MILLIVOLTS: u64 = 14_000;
-const MOST_SWING: u64 = i64::MAX as u64;
+pub const USUAL_MILLIVOLTS: u64 = 14_000;
+pub const MOST_SWING: u64 = i64::MAX as u64;
 
 const EDGE_SWINGS: [u64; 12] = [
     1,

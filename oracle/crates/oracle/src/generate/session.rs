@@ -38,7 +38,7 @@ pub fn turns(bench: &mut Bench) {
 }
 
 /// Settings, tables and supplies, in the order that drivers use.
-fn initialise(bench: &mut Bench) {
+pub fn initialise(bench: &mut Bench) {
     settings(bench);
     if bench.rng.chance(97) {
         tables(bench);
@@ -127,13 +127,14 @@ fn recover(bench: &mut Bench) {
     }
 }
 
-fn stream_bytes(area: Area) -> u64 {
+/// The pixel bytes that fill an area.
+pub fn stream_bytes(area: Area) -> u64 {
     let span = |(first, last): (u16, u16)| u64::from(last.saturating_sub(first)) + 1;
     span(area.columns).div_ceil(8) * span(area.rows)
 }
 
 /// Pixel bytes of one pattern into the written area, now and then too few or too many.
-fn stream(bench: &mut Bench, command: u8) {
+pub fn stream(bench: &mut Bench, command: u8) {
     let whole = stream_bytes(bench.area);
     let most = if bench.rng.chance(5) { 1_000 } else { 80 };
     let count = match bench.rng.below(20) {
@@ -155,7 +156,7 @@ fn stream(bench: &mut Bench, command: u8) {
 }
 
 /// What a driver does besides turning pages.
-fn aside(bench: &mut Bench) {
+pub fn aside(bench: &mut Bench) {
     match bench.rng.below(6) {
         0..=1 => questions(bench),
         2 => soft_reset(bench),

@@ -1,0 +1,103 @@
+//! Sessions to compare, from a seed: the generator's captures, and longer ones on panels of every
+//! size.
+
+mod boundaries;
+mod pages;
+mod panels;
+
+use oracle::capture::Capture;
+use oracle::generate::bench::Bench;
+use oracle::generate::{self, hostile};
+use oracle::rng::Rng;
+
+/// A panel and what it meets. `capture` may be longer, and its panel larger, than the program's.
+pub struct Session {
+    /// What the session is for, one of [`NAMES`].
+    pub name: &'static str,
+    pub capture: Capture,
+}
+
+pub const NAMES: [&str; 8] = [
+    "a generated capture",
+    "resets around each frame boundary",
+    "a refresh whose end is held at 2^64 - 1",
+    "many refreshes",
+    "many page turns",
+    "any bytes, or more rows than are kept",
+    "a large panel",
+    "the X3's own panel",
+];
+
+/// The session of `seed`, always the same.
+pub fn make(seed: u64) -> Session {
+    let mut rng = Rng::new(seed);
+    let name = match rng.below(1_000) {
+        0..=349 => 0,
+        350..=529 => 1,
+        530..=699 => 2,
+        700..=839 => 3,
+        840..=939 => 4,
+        940..=979 => 5,
+        980..=994 => 6,
+        _ => 7,
+    };
+    Session {
+        name: NAMES[name],
+        capture: capture(name, rng),
+    }
+}
+
+fn capture(name: usize, mut rng: Rng) -> Capture {
+    match name {
+        0 => generated(&mut rng),
+        1 => boundaries::each(rng),
+        2 => boundaries::held(rng),
+        3 => pages::refreshes(small(rng)),
+        4 => pages::turns(small(rng)),
+        5 => hostile(small(rng)),
+        6 => {
+            let size = panels::large(&mut rng);
+            pages::whole(Bench::long(panels::of_size(rng, size)))
+        }
+        _ => pages::whole(Bench::long(panels::x3(rng))),
+    }
+}
+
+fn small(mut rng: Rng) -> Bench {
+    let size = panels::small(&mut rng);
+    Bench::long(panels::of_size(rng, size))
+}
+
+/// A capture of the generator whose file can be read; its making may be refused.
+fn generated(rng: &mut Rng) -> Capture {
+    loop {
+        if let Ok(capture) = Capture::read(&generate::make(rng.any())) {
+            return capture;
+        }
+    }
+}
+
+fn hostile(mut bench: Bench) -> Capture {
+    if bench.rng.chance(50) {
+        hostile::storm(bench)
+    } else {
+        hostile::flood(bench)
+    }
+}
+
+/// A session on a small panel with more rows than are kept.
+pub fn crowded(seed: u64) -> Capture {
+    hostile::flood(small(Rng::new(seed)))
+}
+
+/// A session that is often short, of one kind after the other.
+pub fn short(seed: u64) -> Capture {
+    let mut rng = Rng::new(seed);
+    match seed % 6 {
+        0 => boundaries::some(rng),
+        1 => boundaries::held(rng),
+        2 => pages::few_refreshes(small(rng)),
+        3 => hostile::storm(small(rng)),
+        _ => generated(&mut rng),
+    }
+}

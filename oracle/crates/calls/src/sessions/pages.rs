@@ -1,0 +1,111 @@
+//! Sessions of many refreshes: with little between them, by page turns, and of whole pages.
+
+use oracle::capture::Capture;
+use oracle::generate::bench::Bench;
+use oracle::generate::session;
+use oracle::generate::tables::tables;
+use oracle::generate::window::partial;
+
+const DTM1: u8 = 0x10;
+const DRF: u8 = 0x12;
+const DTM2: u8 = 0x13;
+
+/// Something changes between two refreshes, most often nothing.
+fn change(bench: &mut Bench) {
+    match bench.rng.below(40) {
+        0..=3 => interval(bench),
+        4..=6 => partial(bench),
+        7..=9 => session::stream(bench, DTM2),
+        10 => session::stream(bench, DTM1),
+        11 => tables(bench),
+        12 => session::questions(bench),
+        13 => session::aside(bench),
+        _ => {}
+    }
+}
+
+/// 50: which bit is white, and whether NEW is copied to OLD.
+fn interval(bench: &mut Bench) {
+    let byte = bench.rng.byte();
+    bench.command(0x50, &[byte]);
+}
+
+/// Powered again after whatever took the supplies down, a refresh, and its end or a reset.
+fn refresh(bench: &mut Bench) {
+    bench.command(DRF, &[]);
+    if bench.rng.chance(8) {
+        session::cut(bench);
+        session::wake(bench);
+        session::initialise(bench);
+    } else {
+        bench.settle();
+    }
+}
+
+fn many(mut bench: Bench, count: u64) -> Capture {
+    session::initialise(&mut bench);
+    session::stream(&mut bench, DTM1);
+    session::stream(&mut bench, DTM2);
+    for _ in 0..count {
+        change(&mut bench);
+        refresh(&mut bench);
+    }
+    bench.capture()
+}
+
+pub fn refreshes(mut bench: Bench) -> Capture {
+    let count = bench.rng.between(20, 80);
+    many(bench, count)
+}
+
+pub fn few_refreshes(mut bench: Bench) -> Capture {
+    let count = bench.rng.between(2, 5);
+    many(bench, count)
+}
+
+/// Page after page, as drivers turn them.
+pub fn turns(mut bench: Bench) -> Capture {
+    for _ in 0..bench.rng.between(3, 12) {
+        session::turns(&mut bench);
+    }
+    bench.capture()
+}
+
+/// Pixel bytes for the whole written area: noise, or runs of one byte.
+fn plane(bench: &mut Bench, command: u8) {
+    let whole = session::stream_bytes(bench.area);
+    bench.command(command, &[]);
+    if bench.rng.chance(50) {
+        bench.noise(whole);
+        return;
+    }
+    let mut left = whole;
+    while left > 0 {
+        let run = bench.rng.between(1, 300).min(left);
+        let byte = bench.rng.pick(&[0x00, 0xFF, 0xF0, 0xAA]);
+        bench.data(&vec![byte; run as usize]);
+        left -= run;
+    }
+}
+
+/// A few whole pages, with refreshes of windows and of the same page between them.
+pub fn whole(mut bench: Bench) -> Capture {
+    session::initialise(&mut bench);
+    for _ in 0..bench.rng.between(1, 2) {
+        if bench.rng.chance(30) {
+            partial(&mut bench);
+        }
+        let planes: &[u8] = match bench.rng.below(3) {
+            0 => &[DTM1, DTM2],
+            _ => &[DTM2],
+        };
+        for &command in planes {
+            plane(&mut bench, command);
+        }
+        for _ in 0..bench.rng.between(1, 4) {
+            change(&mut bench);
+            refresh(&mut bench);
+        }
+    }
+    bench.capture()
+}

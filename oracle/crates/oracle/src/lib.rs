@@ -1,0 +1,26 @@
+//! Captures of document 01 through the published Rust of the controller, and captures made from
+//! seeds: what the program `oracle` and the comparison call by call share.
+
+pub mod answers;
+pub mod capture;
+pub mod cases;
+pub mod generate;
+mod glass;
+pub mod list;
+mod names;
+pub mod picture;
+pub mod planes;
+mod refreshes;
+pub mod refusal;
+mod registers;
+pub mod replays;
+pub mod rng;
+pub mod rows;
+pub mod run;
+pub mod script;
+pub mod stats;
+mod tally;
+#[cfg(test)]
+mod tests;
+pub mod trace;
+mod watch;
