@@ -23,7 +23,7 @@ pub const NAMES: [&str; 8] = [
     "a refresh whose end is held at 2^64 - 1",
     "many refreshes",
     "many page turns",
-    "any bytes, or more rows than are kept",
+    "any bytes, more rows than are kept, or reads",
     "a large panel",
     "the X3's own panel",
 ];
@@ -78,10 +78,10 @@ fn generated(rng: &mut Rng) -> Capture {
 }
 
 fn hostile(mut bench: Bench) -> Capture {
-    if bench.rng.chance(50) {
-        hostile::storm(bench)
-    } else {
-        hostile::flood(bench)
+    match bench.rng.below(3) {
+        0 => hostile::storm(bench),
+        1 => hostile::flood(bench),
+        _ => pages::questions(bench),
     }
 }
 
@@ -93,11 +93,12 @@ pub fn crowded(seed: u64) -> Capture {
 /// A session that is often short, of one kind after the other.
 pub fn short(seed: u64) -> Capture {
     let mut rng = Rng::new(seed);
-    match seed % 6 {
+    match seed % 7 {
         0 => boundaries::some(rng),
         1 => boundaries::held(rng),
         2 => pages::few_refreshes(small(rng)),
         3 => hostile::storm(small(rng)),
+        4 => pages::questions(small(rng)),
         _ => generated(&mut rng),
     }
 }

@@ -18,8 +18,8 @@ fn change(bench: &mut Bench) {
         7..=9 => session::stream(bench, DTM2),
         10 => session::stream(bench, DTM1),
         11 => tables(bench),
-        12 => session::questions(bench),
-        13 => session::aside(bench),
+        12..=13 => session::questions(bench),
+        14 => session::aside(bench),
         _ => {}
     }
 }
@@ -68,6 +68,20 @@ pub fn turns(mut bench: Bench) -> Capture {
     for _ in 0..bench.rng.between(3, 12) {
         session::turns(&mut bench);
     }
+    bench.capture()
+}
+
+/// Read commands with their reads, some while a refresh runs.
+pub fn questions(mut bench: Bench) -> Capture {
+    for _ in 0..bench.rng.between(4, 10) {
+        session::questions(&mut bench);
+    }
+    session::initialise(&mut bench);
+    bench.command(DRF, &[]);
+    for _ in 0..bench.rng.between(4, 10) {
+        session::questions(&mut bench);
+    }
+    bench.settle();
     bench.capture()
 }
 
