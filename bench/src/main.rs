@@ -1,5 +1,6 @@
 //! The port beside the published Rust, both built for release, on the same input in one run.
 
+mod clock;
 mod panels;
 mod programs;
 mod rows;

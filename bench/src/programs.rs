@@ -4,11 +4,12 @@ use std::ffi::OsStr;
 use std::io::{self, Read, Write};
 use std::path::Path;
 use std::process::{Command, Stdio};
+use std::time::Instant;
 
 use oracle::capture::MOST_EVENTS;
 use oracle::{generate, run};
 
-use crate::table::{ROUNDS, Row, timed};
+use crate::table::{ROUNDS, Row};
 
 /// The argument that makes this program the Rust's side.
 pub const RUN: &str = "run";
@@ -31,8 +32,13 @@ fn longest() -> Vec<u8> {
         .expect("a seed has one")
 }
 
-/// What a program prints for `file`.
-fn printed(program: impl AsRef<OsStr>, arguments: &[&str], file: &[u8]) -> io::Result<Vec<u8>> {
+/// What a program prints for `file`, and its nanoseconds from start to exit.
+fn printed(
+    program: impl AsRef<OsStr>,
+    arguments: &[&str],
+    file: &[u8],
+) -> io::Result<(f64, Vec<u8>)> {
+    let start = Instant::now();
     let mut child = Command::new(program)
         .args(arguments)
         .stdin(Stdio::piped())
@@ -41,7 +47,8 @@ fn printed(program: impl AsRef<OsStr>, arguments: &[&str], file: &[u8]) -> io::R
     let mut input = child.stdin.take().expect("its input is a pipe");
     input.write_all(file)?;
     drop(input);
-    Ok(child.wait_with_output()?.stdout)
+    let text = child.wait_with_output()?.stdout;
+    Ok((start.elapsed().as_nanos() as f64, text))
 }
 
 pub fn whole_capture() -> io::Result<()> {
@@ -53,9 +60,9 @@ pub fn whole_capture() -> io::Result<()> {
     let own = std::env::current_exe()?;
     let mut row = Row::new("a capture of 6,521 events, `panel` against `oracle run`", 1);
     for _ in 0..ROUNDS {
-        let (ours, our_text) = timed(|| printed(PANEL, &[], &file));
-        let (rust, rust_text) = timed(|| printed(&own, &[RUN], &file));
-        assert!(our_text? == rust_text?, "the two programs print the same");
+        let (ours, our_text) = printed(PANEL, &[], &file)?;
+        let (rust, rust_text) = printed(&own, &[RUN], &file)?;
+        assert!(our_text == rust_text, "the two programs print the same");
         row.note(ours, rust);
     }
     row.print();

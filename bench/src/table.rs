@@ -1,7 +1,8 @@
 //! The table: for each row the least time of some rounds, of ours and of the Rust.
 
 use std::hint::black_box;
-use std::time::Instant;
+
+use crate::clock;
 
 pub const ROUNDS: usize = 25;
 
@@ -14,11 +15,11 @@ pub struct Row {
     rust: f64,
 }
 
-/// How long `work` takes, in nanoseconds, and what it gives.
+/// How long `work` takes by this thread's processor time, in nanoseconds, and what it gives.
 pub fn timed<T>(work: impl FnOnce() -> T) -> (f64, T) {
-    let start = Instant::now();
+    let start = clock::thread_nanoseconds();
     let result = black_box(work());
-    (start.elapsed().as_nanos() as f64, result)
+    ((clock::thread_nanoseconds() - start) as f64, result)
 }
 
 pub fn head() {

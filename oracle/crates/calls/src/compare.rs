@@ -104,7 +104,7 @@ impl Search<'_> {
 
 /// Fewer steps that show the same kind of difference: by single calls if that shows it, and with
 /// every event left out that can be.
-pub fn reduced(configuration: &Configuration, steps: &[Step], found: &Found) -> Vec<Step> {
+fn fewer(configuration: &Configuration, steps: &[Step], found: &Found) -> Vec<Step> {
     let mut search = Search {
         configuration,
         what: found.difference.what,
@@ -130,4 +130,11 @@ pub fn reduced(configuration: &Configuration, steps: &[Step], found: &Found) -> 
             return kept;
         }
     }
+}
+
+/// A session of as few steps, and what it shows.
+pub fn reduced(configuration: &Configuration, steps: &[Step], found: Found) -> (Vec<Step>, Found) {
+    let steps = fewer(configuration, steps, &found);
+    let shown = session(configuration, &steps, &mut Blind).err();
+    (steps, shown.unwrap_or(found))
 }

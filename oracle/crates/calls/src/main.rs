@@ -19,7 +19,6 @@ use std::time::{Instant, SystemTime, UNIX_EPOCH};
 
 use oracle::rng::Rng;
 
-use compare::Found;
 use coverage::Coverage;
 use sessions::Session;
 
@@ -44,15 +43,13 @@ fn one(seed: u64, coverage: &mut Coverage) -> io::Result<bool> {
     };
     let head = format!("seed {seed}, {name}");
     print!("{head}, {}", keep::words(&found));
-    let fewer = compare::reduced(&capture.configuration, &steps, &found);
-    let shown = compare::session(&capture.configuration, &fewer, coverage).err();
-    let shown: Found = shown.unwrap_or(found);
+    let (steps, found) = compare::reduced(&capture.configuration, &steps, found);
     let directory = Path::new(DIFFERENCE);
-    keep::keep(directory, &head, &capture.configuration, &fewer, &shown)?;
-    println!(
-        "reduced to {} events, kept in {DIFFERENCE}/: {}",
-        fewer.len(),
-        keep::words(&shown)
+    keep::keep(directory, &head, &capture.configuration, &steps, &found)?;
+    print!(
+        "reduced to {} events and kept in {DIFFERENCE}/, {}",
+        steps.len(),
+        keep::words(&found)
     );
     Ok(false)
 }

@@ -18,9 +18,6 @@ const CORNERS: [(u16, u16); 6] = [
     (65_535, 65_535),
 ];
 
-/// Where a byte of a plane lies, and its bits.
-type Byte = (Plane, u16, u16, u8);
-
 fn theirs(plane: Plane) -> uc8253::Plane {
     match plane {
         Plane::Old => uc8253::Plane::Old,
@@ -44,9 +41,12 @@ pub fn plane_bytes(chip: &Uc8253, plane: Plane) -> Vec<u8> {
 
 fn compare_byte(ours: &Ours, rust: &Uc8253, plane: Plane, at: usize) -> Result<(), Difference> {
     let (byte, row) = ((at % ROW_BYTES) as u16, (at / ROW_BYTES) as u16);
-    let bits: u8 = packed(rust, theirs(plane), byte, row);
-    let of = |bits: u8| -> Byte { (plane, 8 * byte, row, bits) };
-    same("byte of RAM", of(ours.plane(plane)[at]), of(bits))
+    let place = |bits: u8| (plane, 8 * byte, row, bits);
+    same(
+        "byte of RAM",
+        place(ours.plane(plane)[at]),
+        place(packed(rust, theirs(plane), byte, row)),
+    )
 }
 
 /// Every bit of both planes.

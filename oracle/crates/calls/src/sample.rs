@@ -15,7 +15,7 @@ use crate::memory::plane_bytes;
 use crate::sessions;
 
 const SESSIONS: usize = 60;
-const MOST_EVENTS_OF_MANY: usize = 100;
+const MOST_EVENTS_OF_MANY: usize = 130;
 /// So often the planes are digested, besides the last event.
 const DIGEST_EVERY: usize = 16;
 

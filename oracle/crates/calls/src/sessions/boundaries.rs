@@ -42,7 +42,7 @@ fn tables(rng: &mut Rng) -> Tables {
 }
 
 /// A few pixels, a swing of a few frames, a period that leaves nanoseconds between boundaries or
-/// none, and little time besides.
+/// none, and a start far from the last nanosecond.
 fn panel(rng: Rng) -> Panel {
     let mut panel = matched(rng);
     let rng = &mut panel.rng;
@@ -57,6 +57,7 @@ fn panel(rng: Rng) -> Panel {
     of.periods = [period; 32];
     panel.frames = rng.between(1, 6);
     of.full_swing = USUAL_MILLIVOLTS * period * panel.frames;
+    panel.start = rng.wide(40);
     panel.pace = 0;
     panel
 }

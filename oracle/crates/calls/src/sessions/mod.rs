@@ -17,13 +17,14 @@ pub struct Session {
     pub capture: Capture,
 }
 
-pub const NAMES: [&str; 8] = [
+pub const NAMES: [&str; 9] = [
     "a generated capture",
     "resets around each frame boundary",
     "a refresh whose end is held at 2^64 - 1",
     "many refreshes",
     "many page turns",
     "any bytes, more rows than are kept, or reads",
+    "a command with more bytes or reads than are counted",
     "a large panel",
     "the X3's own panel",
 ];
@@ -32,14 +33,15 @@ pub const NAMES: [&str; 8] = [
 pub fn make(seed: u64) -> Session {
     let mut rng = Rng::new(seed);
     let name = match rng.below(1_000) {
-        0..=349 => 0,
-        350..=529 => 1,
-        530..=699 => 2,
-        700..=839 => 3,
-        840..=939 => 4,
-        940..=979 => 5,
-        980..=994 => 6,
-        _ => 7,
+        0..=299 => 0,
+        300..=479 => 1,
+        480..=629 => 2,
+        630..=849 => 3,
+        850..=924 => 4,
+        925..=964 => 5,
+        965..=969 => 6,
+        970..=986 => 7,
+        _ => 8,
     };
     Session {
         name: NAMES[name],
@@ -55,7 +57,8 @@ fn capture(name: usize, mut rng: Rng) -> Capture {
         3 => pages::refreshes(small(rng)),
         4 => pages::turns(small(rng)),
         5 => hostile(small(rng)),
-        6 => {
+        6 => pages::counts(small(rng)),
+        7 => {
             let size = panels::large(&mut rng);
             pages::whole(Bench::long(panels::of_size(rng, size)))
         }
@@ -78,9 +81,9 @@ fn generated(rng: &mut Rng) -> Capture {
 }
 
 fn hostile(mut bench: Bench) -> Capture {
-    match bench.rng.below(3) {
+    match bench.rng.below(4) {
         0 => hostile::storm(bench),
-        1 => hostile::flood(bench),
+        1..=2 => hostile::flood(bench),
         _ => pages::questions(bench),
     }
 }

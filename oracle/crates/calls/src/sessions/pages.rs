@@ -9,6 +9,8 @@ use oracle::generate::window::partial;
 const DTM1: u8 = 0x10;
 const DRF: u8 = 0x12;
 const DTM2: u8 = 0x13;
+/// Where counts of data bytes and of reads are held.
+const MOST_COUNTED: u64 = 65_535;
 
 /// Something changes between two refreshes, most often nothing.
 fn change(bench: &mut Bench) {
@@ -71,17 +73,40 @@ pub fn turns(mut bench: Bench) -> Capture {
     bench.capture()
 }
 
-/// Read commands with their reads, some while a refresh runs.
+/// Some read commands with their reads.
+fn ask(bench: &mut Bench) {
+    for _ in 0..bench.rng.between(1, 4) {
+        session::questions(bench);
+    }
+}
+
+/// Read commands before and during a refresh of empty tables.
 pub fn questions(mut bench: Bench) -> Capture {
-    for _ in 0..bench.rng.between(4, 10) {
-        session::questions(&mut bench);
-    }
-    session::initialise(&mut bench);
-    bench.command(DRF, &[]);
-    for _ in 0..bench.rng.between(4, 10) {
-        session::questions(&mut bench);
-    }
+    ask(&mut bench);
+    bench.command(0x00, &[0x3F]);
+    bench.command(0x04, &[]);
     bench.settle();
+    bench.command(DRF, &[]);
+    ask(&mut bench);
+    bench.settle();
+    bench.capture()
+}
+
+/// Commands whose data bytes or reads go past the count that is held.
+pub fn counts(mut bench: Bench) -> Capture {
+    let command = bench
+        .rng
+        .pick(&[0x13, 0x15, 0x20, 0x24, 0x61, 0x70, 0x71, 0x90]);
+    let count = MOST_COUNTED - 2 + bench.rng.below(5);
+    bench.command(command, &[]);
+    if bench.rng.chance(50) {
+        bench.noise(count);
+    } else {
+        bench.reads(count);
+    }
+    bench.noise(1);
+    bench.reads(2);
+    session::turns(&mut bench);
     bench.capture()
 }
 
@@ -102,9 +127,18 @@ fn plane(bench: &mut Bench, command: u8) {
     }
 }
 
+/// Whatever the settings were, the next refresh is carried out.
+fn make_sure(bench: &mut Bench) {
+    let mirrors = bench.rng.pick(&[0x0C, 0x0C, 0x08, 0x04, 0x00]);
+    bench.command(0x00, &[0x33 | mirrors]);
+    bench.command(0x04, &[]);
+    bench.settle();
+}
+
 /// A few whole pages, with refreshes of windows and of the same page between them.
 pub fn whole(mut bench: Bench) -> Capture {
     session::initialise(&mut bench);
+    make_sure(&mut bench);
     for _ in 0..bench.rng.between(1, 2) {
         if bench.rng.chance(30) {
             partial(&mut bench);
