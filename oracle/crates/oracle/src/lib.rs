@@ -1,6 +1,7 @@
 //! Captures of document 01 through the published Rust of the controller, and captures made from
 //! seeds: what the program `oracle` and the comparison call by call share.
 
+pub mod against;
 pub mod answers;
 pub mod capture;
 pub mod cases;

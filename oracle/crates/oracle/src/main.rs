@@ -4,7 +4,9 @@ use std::io::{self, ErrorKind, Read, Write};
 use std::path::Path;
 use std::process::ExitCode;
 
-use oracle::{answers, cases, generate, list, picture, replays, run, stats, trace};
+use oracle::{
+    against::Comparison, answers, cases, generate, list, picture, replays, run, stats, trace,
+};
 
 const USAGE: &str = "usage: oracle run | trace | list | picture   (a capture on standard input)
        oracle make SEED
@@ -12,6 +14,8 @@ const USAGE: &str = "usage: oracle run | trace | list | picture   (a capture on 
        oracle answers SEED LEVELS GREYS REFRESHES
        oracle replays SEED N DIR
        oracle cases DIR | check DIR
+       oracle compare PANEL N SEED
+       oracle damaged PANEL SECONDS SEED
 ";
 
 fn input() -> io::Result<Vec<u8>> {
@@ -37,6 +41,14 @@ fn number(word: &str) -> io::Result<u64> {
         .map_err(|error| io::Error::new(ErrorKind::InvalidInput, format!("{word}: {error}")))
 }
 
+fn verdict(equal: bool) -> ExitCode {
+    if equal {
+        ExitCode::SUCCESS
+    } else {
+        ExitCode::FAILURE
+    }
+}
+
 fn obey(words: &[&str]) -> io::Result<ExitCode> {
     match words {
         ["run"] => say(run::run(&input()?))?,
@@ -58,11 +70,19 @@ fn obey(words: &[&str]) -> io::Result<ExitCode> {
         ["check", directory] => {
             let (text, equal) = cases::check(Path::new(directory))?;
             say(text)?;
-            return Ok(if equal {
-                ExitCode::SUCCESS
-            } else {
-                ExitCode::FAILURE
-            });
+            return Ok(verdict(equal));
+        }
+        ["compare", panel, count, seed] => {
+            let mut comparison = Comparison::by(Path::new(panel));
+            return Ok(verdict(
+                comparison.generated(number(count)?, number(seed)?)?,
+            ));
+        }
+        ["damaged", panel, seconds, seed] => {
+            let mut comparison = Comparison::by(Path::new(panel));
+            return Ok(verdict(
+                comparison.damaged(number(seconds)?, number(seed)?)?,
+            ));
         }
         _ => {
             eprint!("{USAGE}");
