@@ -1,5 +1,5 @@
 -- Document 01, "Making a panel, and being turned back", 1 to 4: what turns a configuration back.
-use mathlib.Core.Bool.{Bool, true, false, _||_}
+use mathlib.Core.Bool.{Bool, false, _||_}
 use mathlib.Core.List.{List}
 use Prim.Native.Nat.{ℕ, zero, suc, _-_, _^_, _≤_, _<_}
 use lib.ListN.{getD}

@@ -1,6 +1,6 @@
 -- What every end of a refresh leaves, the first and each later one: the states walked, the picture drawn of them, the head published.
 use mathlib.Core.Path.{_≡_, refl}
-use mathlib.Core.Bool.{Bool, true, false}
+use mathlib.Core.Bool.{true, false}
 use lib.ListN.{take}
 use Rattle.base.proofs.Cases.{by-cases}
 use Rattle.registers.specs.Flags.{copiesNewToOld}

@@ -1,5 +1,5 @@
 -- Document 01, "A call arrives": the clock, the end of an operation, the busy pin.
-use mathlib.Core.Bool.{Bool, true, false, _||_}
+use mathlib.Core.Bool.{Bool, true, false}
 use Prim.Native.Nat.{ℕ, _+_, min, max}
 use lib.Dec.{leb, ltb}
 use Rattle.base.specs.Word.{top}

@@ -1,10 +1,10 @@
 -- The calls: refused first, with the record given back and no lent entry changed; else the clock, what has come to its end, and then the call's own.
 use mathlib.Core.Bool.{Bool, true, false}
-use mathlib.Core.List.{List, [], _∷_}
+use mathlib.Core.List.{List, []}
 use Prim.Native.Nat.{ℕ, _*_}
 use lib.Dec.{eqb, ltb}
 use lib.ListN.{length, take, drop, replicate}
-use lib.IntN.{ℤ, pos}
+use lib.IntN.{pos}
 use Rattle.base.specs.Pick.{pick}
 use Rattle.config.specs.declared.Uc8253Config.{Uc8253Config}
 use Rattle.config.specs.declared.Variant.the-variants as variant
@@ -24,7 +24,7 @@ use Rattle.controller.specs.declared.Work.the-variants as work
 use Rattle.controller.specs.declared.Current.the-variants as current
 use Rattle.controller.specs.declared.Uc8253.{Uc8253}
 use Rattle.controller.specs.declared.reads.Read.{Read}
-use Rattle.controller.specs.declared.reads.Read.the-variants.{Byte, Nothing}
+use Rattle.controller.specs.declared.reads.Read.the-variants.{Nothing}
 use Rattle.controller.specs.declared.Due.{Due}
 use Rattle.controller.specs.declared.Due.the-variants as due
 use Rattle.controller.specs.World.{World, Buffers, world, onChip, withLog}

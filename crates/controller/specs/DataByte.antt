@@ -1,5 +1,5 @@
 -- Document 01, "A data byte".
-use mathlib.Core.Bool.{Bool, true, false}
+use mathlib.Core.Bool.{true, false}
 use Prim.Native.Nat.{ℕ, _+_, min}
 use lib.Dec.{eqb, ltb}
 use Rattle.base.specs.Pick.{pick}

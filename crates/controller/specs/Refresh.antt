@@ -10,7 +10,7 @@ use Rattle.base.specs.Integer.{up}
 use Rattle.glass.specs.Walk.{walk}
 use Rattle.glass.specs.declared.PanelImage.{PanelImage}
 use Rattle.glass.specs.declared.RefreshKind.{RefreshKind}
-use Rattle.glass.specs.declared.RefreshKind.the-variants.{PowerOn, Full, Partial}
+use Rattle.glass.specs.declared.RefreshKind.the-variants.{Full, Partial}
 use Rattle.diagnostic.specs.declared.DiagnosticKind.the-variants.{RefreshNotModelled, RefreshWithoutPower}
 use Rattle.registers.specs.Flags.{bitSet, copiesNewToOld}
 use Rattle.registers.specs.Written.{writtenOf}
@@ -31,7 +31,7 @@ use Rattle.controller.specs.declared.Uc8253.{Uc8253}
 use Rattle.controller.specs.declared.Work.the-variants as work
 use Rattle.controller.specs.declared.notes.Note.{Note}
 use Rattle.controller.specs.declared.notes.Note.the-variants.{Quiet, Told}
-use Rattle.controller.specs.World.{World, Buffers, world, onChip, withOperation, withWaveform, withImage, withNumbers, withStates, withPicture, withOld, tell}
+use Rattle.controller.specs.World.{World, Buffers, world, withOperation, withWaveform, withImage, withNumbers, withStates, withPicture, withOld, tell}
 use mathlib.Core.List.{map}
 
 -- refused in order: bit 5 of the first 00 byte clear (text 1), bit 4 clear (2), bit 1 clear (3), power off

@@ -1,6 +1,5 @@
 -- Document 01, "A call arrives": the reset line.
 use mathlib.Core.Bool.{Bool, true, false}
-use Prim.Native.Nat.{ℕ}
 use Rattle.registers.specs.Luts.{resetLuts}
 use Rattle.registers.specs.Reset.{resetOf}
 use Rattle.diagnostic.specs.declared.DiagnosticKind.the-variants.{ResetDuringRefresh}

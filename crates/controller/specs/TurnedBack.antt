@@ -1,6 +1,5 @@
 -- Document 01, "Making a panel, and being turned back": refusals 5, 6 and 7.
 use mathlib.Core.Bool.{Bool, true, false, _||_, _&&_, not}
-use mathlib.Core.List.{List}
 use Prim.Native.Nat.{ℕ, _*_, max}
 use lib.Dec.{eqb, ltb, leb}
 use lib.ListN.{length}

@@ -11,7 +11,6 @@ use Rattle.glass.specs.declared.RefreshKind.the-variants as shown
 use Rattle.controller.specs.declared.Active.{Active}
 use Rattle.controller.specs.declared.Current.{Current}
 use Rattle.controller.specs.declared.Current.the-variants as currents
-use Rattle.controller.specs.declared.Operation.{Operation}
 use Rattle.controller.specs.declared.Power.{Power}
 use Rattle.controller.specs.declared.Power.the-variants as powers
 use Rattle.controller.specs.declared.Refresh.{Refresh}

@@ -1,5 +1,5 @@
 -- A call that is passed on: what is shown of the records inside holds of the records of numbers, since what is handed over is taken back the same.
-use mathlib.Core.Path.{_≡_, refl, sym, ap, _∙_}
+use mathlib.Core.Path.{_≡_, refl, ap, _∙_}
 use mathlib.Core.Bool.{Bool, true, false}
 use Prim.Native.Nat.{ℕ}
 use lib.Dec.{eqb}
@@ -12,7 +12,6 @@ use Rattle.exports.specs.declared.handed.Handed.{Handed}
 use Rattle.exports.specs.declared.Given.{Given}
 use Rattle.exports.specs.declared.Asked.{Asked}
 use Rattle.exports.specs.Taken.{takenOf}
-use Rattle.exports.specs.Handed.{handedOf}
 use Rattle.exports.specs.Given.{givenOf, busyAsked}
 use Rattle.exports.proofs.Back.{back}
 

@@ -1,7 +1,7 @@
 -- The level by a split quotient, the least state of each grey, and the grey from a quotient and a remainder of 255 times the state.
-use mathlib.Core.Path.{_≡_, refl, sym, ap, _∙_}
-use Prim.Native.Nat.{ℕ, zero, suc, _+_, _-_, _*_, _/_, _%_, _^_, _≤_, _<_, min}
-use native.Mathlib.Nat.{mul-zero, mul-assoc, mul-add, add-mul, mul-comm, mul-left-comm, div-add-mod, div-lt-iff-lt-mul, le-div-iff-mul-le, pow-succ'}
+use mathlib.Core.Path.{_≡_, sym, ap, _∙_}
+use Prim.Native.Nat.{ℕ, zero, suc, _+_, _-_, _*_, _/_, _%_, _^_, _≤_, _<_}
+use native.Mathlib.Nat.{mul-zero, mul-assoc, mul-add, add-mul, mul-left-comm, div-add-mod, div-lt-iff-lt-mul, le-div-iff-mul-le, pow-succ'}
 use native.Mathlib.Omega.{arith}
 use native.Mathlib.Decide.{decLe}
 use native.Mathlib.Numerals.{add-one}

@@ -1,7 +1,7 @@
 -- What a transfer means: it acts as the walk of its drives, alone, repeated and composed; and holding its moves to 64 bits changes no state.
-use mathlib.Core.Path.{_≡_, refl, sym, ap, _∙_}
-use mathlib.Core.List.{List, [], _∷_, _++_}
-use Prim.Native.Nat.{ℕ, zero, suc, _+_, _-_, _*_, _≤_, _<_, min, max}
+use mathlib.Core.Path.{_≡_, sym, ap, _∙_}
+use mathlib.Core.List.{List, [], _++_}
+use Prim.Native.Nat.{ℕ, suc, _+_, _-_, _*_, _≤_, min, max}
 use native.Mathlib.Nat.{le-refl, le-trans, mul-zero}
 use native.Mathlib.Omega.{arith}
 use native.Mathlib.Decide.{decLe}

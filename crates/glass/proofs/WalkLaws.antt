@@ -1,12 +1,12 @@
 -- What holds of a walk: it stays in 0 .. full swing, joins over lists in a row, takes n equal frames as one, and is one translation that is held.
 use mathlib.Core.Path.{_≡_, refl, sym, ap, subst, _∙_}
 use mathlib.Core.List.{List, [], _∷_, _++_}
-use Prim.Native.Nat.{ℕ, zero, suc, _+_, _-_, _*_, _≤_, _<_, min, max}
-use native.Mathlib.Nat.{suc-mul, zero-mul, mul-zero, le-refl, le-trans}
+use Prim.Native.Nat.{ℕ, zero, suc, _+_, _-_, _*_, _≤_, min, max}
+use native.Mathlib.Nat.{suc-mul, zero-mul, mul-zero, le-refl}
 use native.Mathlib.Omega.{arith}
 use native.Mathlib.Decide.{decLe}
 use lib.ListN.{replicate}
-use lib.IntN.{ℤ, pos, negsuc, _+ℤ_, _*ℤ_, +ℤ-assoc, +ℤ-idr}
+use lib.IntN.{ℤ, pos, negsuc, _+ℤ_, _*ℤ_, +ℤ-assoc}
 use Rattle.base.specs.Integer.{up, dn}
 use Rattle.base.proofs.Integer.{up-add, up-times, dn-times, same}
 use Rattle.glass.specs.Walk.{hold, step, walk}

@@ -1,7 +1,7 @@
 -- A pixel's number by rows is its number: inside both areas is a row inside both and a column inside both.
-use mathlib.Core.Path.{_≡_, refl, sym, ap, subst, _∙_}
+use mathlib.Core.Path.{_≡_, refl, sym, subst}
 use mathlib.Core.Bool.{Bool, true, false, _&&_, _||_}
-use mathlib.Core.List.{List, [], _∷_}
+use mathlib.Core.List.{List}
 use Prim.Native.Nat.{ℕ, zero, suc, _+_, _*_, _/_, _%_, _≤_, _<_, min, max}
 use native.Mathlib.Numerals.{add-one}
 use native.Mathlib.Omega.{arith}
@@ -13,12 +13,12 @@ use Rattle.base.specs.Pick.{pick}
 use Rattle.base.proofs.Cases.{by-cases}
 use Rattle.registers.specs.Area.{inside}
 use Rattle.registers.specs.declared.Area.{Area}
-use Rattle.ram.specs.Plane.{place, bitOf, bitAt}
+use Rattle.ram.specs.Plane.{place, bitAt}
 use Rattle.numbers.specs.declared.Scan.{Scan}
 use Rattle.numbers.specs.declared.Row.{Row}
 use Rattle.numbers.specs.declared.Pixels.{Pixels}
 use Rattle.numbers.specs.Number.{shownAt, tableOf, numberOf, someUndriven}
-use Rattle.numbers.specs.Row.{noRow, rowAt, numberIn, numberOfBit, byteInside, wholeByte}
+use Rattle.numbers.specs.Row.{rowAt, numberIn, numberOfBit, byteInside, wholeByte}
 
 -- ---- tests of a larger and of a smaller end
 leb-max : (a b c : ℕ) → leb (max a b) c ≡ leb a c && leb b c

@@ -6,7 +6,6 @@ use lib.Dec.{eqb, leb}
 use lib.ListN.{getD}
 use Rattle.base.specs.Pick.{pick}
 use Rattle.registers.specs.Area.{inside}
-use Rattle.registers.specs.declared.Area.{Area}
 use Rattle.registers.specs.declared.Registers.{Registers}
 use Rattle.registers.specs.Flags.{bitSet, oneIsWhite}
 use Rattle.registers.specs.Written.{activeOf, writtenOf}

@@ -1,8 +1,7 @@
 -- A call that arrives: the clock's new value decides whether what runs has come to its end.
-use mathlib.Core.Path.{_≡_, refl, sym, ap, subst, _∙_}
-use mathlib.Core.Bool.{Bool, true, false, _&&_, _||_}
+use mathlib.Core.Path.{_≡_, sym, ap, subst}
+use mathlib.Core.Bool.{Bool, true}
 use Prim.Native.Nat.{ℕ, _≤_, _<_, max}
-use lib.Dec.{leb}
 use borrow.Author.Tests.{le-leb, lt-leb}
 use Rattle.config.specs.declared.Uc8253Config.{Uc8253Config}
 use Rattle.diagnostic.specs.declared.DiagnosticKind.{DiagnosticKind}
@@ -11,7 +10,7 @@ use Rattle.pixels.specs.States.{most, everyState}
 use Rattle.controller.specs.declared.Uc8253.{Uc8253}
 use Rattle.controller.specs.World.{World, Buffers, world, withNow, withRows, tell}
 use Rattle.controller.specs.Arrives.{endedBy, ended, arrived}
-use Rattle.controller.specs.TurnedBack.{refreshRuns, cuts, endsRefresh}
+use Rattle.controller.specs.TurnedBack.{refreshRuns, endsRefresh}
 use mathlib.Core.List.{List}
 
 pub arrived-due : (t n : ℕ) (w : World) → n ≡ max (w .chip .now) t → w .chip .operation .until ≤ n

@@ -1,5 +1,5 @@
 -- A definition that goes by an enum of the record, where the match has told which case it is.
-use mathlib.Core.Path.{_≡_, refl, sym, ap, _∙_}
+use mathlib.Core.Path.{_≡_, sym, ap, _∙_}
 use mathlib.Core.Bool.{Bool, true, false, true≢false}
 use Rattle.controller.specs.declared.Power.{Power}
 use Rattle.controller.specs.declared.Work.{Work}

@@ -1,6 +1,6 @@
 -- A call that is turned back leaves all as it was; one that is not knows the swing and, where it ends a refresh, the states.
 use mathlib.Core.Path.{_≡_, refl, sym, ap, subst, _∙_}
-use mathlib.Core.Bool.{Bool, true, false, _&&_, _||_, not, true≢false, false≢true}
+use mathlib.Core.Bool.{Bool, true, false, _&&_, _||_, not, false≢true}
 use Prim.Native.Nat.{ℕ, _≤_, max}
 use native.Mathlib.Omega.{arith}
 use lib.Dec.{eqb, leb}
@@ -17,7 +17,7 @@ use Rattle.controller.specs.declared.Work.{Work}
 use Rattle.controller.specs.declared.Work.the-variants as work
 use Rattle.controller.specs.declared.Uc8253.{Uc8253}
 use Rattle.controller.specs.declared.reads.Read.{Read}
-use Rattle.controller.specs.declared.reads.Read.the-variants.{Byte, Nothing}
+use Rattle.controller.specs.declared.reads.Read.the-variants.{Nothing}
 use Rattle.controller.specs.World.{World}
 use Rattle.controller.specs.TurnedBack.{badConfig, foreignRecord, lentFits, cuts, refreshRuns, endsRefresh, foreignContents, turnedBack}
 use Rattle.controller.specs.Arrives.{arrived, ended, endedBy, timed}

@@ -1,5 +1,5 @@
 -- The parts of a refresh's start and end, each as its function gave it, make the world of the definition.
-use mathlib.Core.Path.{_≡_, refl, sym, ap, _∙_}
+use mathlib.Core.Path.{_≡_, refl, ap, _∙_}
 use mathlib.Core.Bool.{Bool, true, false}
 use mathlib.Core.List.{List}
 use Prim.Native.Nat.{ℕ, _+_, min}
@@ -15,14 +15,13 @@ use Rattle.registers.specs.Written.{writtenOf}
 use Rattle.numbers.specs.declared.Pixels.{Pixels}
 use Rattle.numbers.specs.Filled.{rowsFilled}
 use Rattle.numbers.specs.Number.{pixelsOf, numberOf}
-use Rattle.base.proofs.Cases.{by-cases}
 use Rattle.ram.specs.Copy.{copied}
 use Rattle.registers.specs.Flags.{copiesNewToOld}
 use Rattle.pixels.specs.Draw.{drawn}
 use Rattle.controller.specs.declared.Refresh.{Refresh}
 use Rattle.controller.specs.declared.Uc8253.{Uc8253}
 use Rattle.controller.specs.declared.Work.the-variants as work
-use Rattle.controller.specs.World.{World, Buffers, world, buffers, withImage, withOperation, withWaveform}
+use Rattle.controller.specs.World.{Buffers, world, buffers, withImage, withOperation, withWaveform}
 use Rattle.controller.specs.Refresh.{walked, published, finished, allFrames, elapsed, copiedAfter, endedRefresh, cutRefresh, waveformNow, numbersNow, kindBy, refreshing, refreshStarted}
 use Rattle.uc8253.specs.Steps.{copiedIf}
 

@@ -1,5 +1,5 @@
 -- The calls in smaller steps, as the code takes them: parts of the definitions of `controller`, each under a name.
-use mathlib.Core.Bool.{Bool, true, false}
+use mathlib.Core.Bool.{false}
 use mathlib.Core.List.{List}
 use Prim.Native.Nat.{ℕ}
 use lib.IntN.{ℤ}

@@ -1,6 +1,6 @@
 -- Demand 3, over every list of calls after an accepted making; and that no call lent the making's buffers is turned back.
 use mathlib.Core.Path.{_≡_, refl, sym, ap, subst, _∙_}
-use mathlib.Core.Bool.{Bool, true, false, not}
+use mathlib.Core.Bool.{true, false, not}
 use mathlib.Core.List.{List, [], _∷_, _++_}
 use Prim.Native.Nat.{ℕ, zero, suc, _+_, _*_, _-_, _<_}
 use native.Mathlib.Omega.{arith}
@@ -16,11 +16,7 @@ use Rattle.glass.proofs.Coalescence.{coalescence}
 use Rattle.pixels.proofs.StateLaws.{states-in-range}
 use Rattle.controller.specs.World.{World, Buffers, world}
 use Rattle.controller.specs.Arrives.{arrived}
-use Rattle.controller.specs.Command.{commandByte}
-use Rattle.controller.specs.DataByte.{dataByte}
-use Rattle.controller.specs.Reading as rd
-use Rattle.controller.specs.Reset.{resetEdge}
-use Rattle.controller.specs.TurnedBack.{foreignRecord, turnedBack, makingRefused}
+use Rattle.controller.specs.TurnedBack.{makingRefused}
 use Rattle.controller.specs.Calls.{takeCall, made, firstChip, firstBuffers}
 use Rattle.controller.specs.Sound.{Sound}
 use Rattle.controller.proofs.Sound.{sound-made, sound-arrived, sound-command, sound-data, sound-reading, sound-reset, sound-take, never-turned, home}

@@ -1,13 +1,12 @@
 -- The parts of a frame's drive by the parts of its two levels.
-use mathlib.Core.Path.{_≡_, refl, sym, ap, _∙_}
-use mathlib.Core.Bool.{Bool, true, false}
+use mathlib.Core.Path.{_≡_, ap, _∙_}
+use mathlib.Core.Bool.{true, false}
 use Prim.Native.Nat.{ℕ, _+_, _-_, _*_, min}
 use native.Mathlib.Nat.{mul-comm}
-use lib.IntN.{ℤ, pos, negℤ, _-ℤ_, _*ℤ_, *ℤ-comm}
+use lib.IntN.{ℤ, pos, _-ℤ_, _*ℤ_, *ℤ-comm}
 use Rattle.base.specs.Word.{top}
 use Rattle.base.specs.Integer.{up, dn}
 use Rattle.base.proofs.Integer.{up-neg, dn-neg, up-sub, dn-sub, up-times, dn-times}
-use Rattle.waveform.specs.declared.Drive.{Drive}
 use Rattle.waveform.specs.declared.Levels.{Levels}
 use Rattle.waveform.specs.Levels.{levelOfCode, floats}
 use Rattle.waveform.specs.Frames.{driveOf}

@@ -1,11 +1,10 @@
 -- How many frames a table has: its list of drives is as long as its groups count.
-use mathlib.Core.Path.{_≡_, refl, sym, ap, _∙_}
+use mathlib.Core.Path.{_≡_, refl, ap, _∙_}
 use mathlib.Core.Bool.{Bool}
 use mathlib.Core.List.{List, [], _∷_}
-use Prim.Native.Nat.{ℕ, zero, suc, _+_, _*_, _≤_}
+use Prim.Native.Nat.{ℕ, suc, _+_, _*_, _≤_}
 use native.Mathlib.Omega.{arith}
 use lib.ListN.{length, getD, replicate, length-replicate}
-use Rattle.base.specs.InTurn.{inTurn}
 use Rattle.base.proofs.InTurn.{sumTo, length-in-turn, sum-first, sum-equal}
 use Rattle.base.proofs.Lists.{getD-past}
 use Rattle.waveform.specs.declared.Group.{Group}

@@ -1,16 +1,15 @@
 -- Where a table ends, group by group, and how many frames it has.
-use mathlib.Core.Path.{_≡_, refl, sym, ap, _∙_}
+use mathlib.Core.Path.{_≡_, refl}
 use mathlib.Core.Bool.{true, false}
 use mathlib.Core.List.{List, [], _∷_}
-use Prim.Native.Nat.{ℕ, zero, suc, _+_, _*_, _<_, _≤_}
-use native.Mathlib.Nat.{not-suc-le-zero}
+use Prim.Native.Nat.{ℕ, zero, suc, _+_, _<_, _≤_}
 use native.Mathlib.Numerals.{add-one}
 use native.Mathlib.Omega.{arith}
 use lib.ListN.{length, getD, drop, drop-of-length-le}
 use lib.Seq.{drop-cons}
 use Rattle.base.proofs.Cases.{by-cases}
 use Rattle.waveform.specs.declared.Group.{Group}
-use Rattle.waveform.specs.Tables.{ends, running, countOf, counted}
+use Rattle.waveform.specs.Tables.{ends, running}
 
 -- what an index past a table's end would read
 abbrev pub unread : Group

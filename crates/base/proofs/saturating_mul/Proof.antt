@@ -1,6 +1,5 @@
 -- `base::saturating_mul` meets its contract: the quotient tells whether the product passes the range.
 use borrow.Author.Needs.{needs}
-use Prim.Native.Nat.{ℕ, _*_, _≤_, _<_}
 use native.Mathlib.Omega.{arith}
 use native.Mathlib.Nat.{mul-zero}
 use Rattle.base.specs.Word.{top}

@@ -1,10 +1,9 @@
 -- `glass::gray` meets its contract. Below 2 ^ 54 the formula's own numbers fit 64 bits.
 use borrow.Author.Needs.{needs}
-use Prim.Native.Nat.{ℕ, _<_, _≤_, _+_, _*_, _/_, min}
+use Prim.Native.Nat.{ℕ, _+_, _*_, _/_}
 use mathlib.Core.Path.{_≡_, ap}
 use native.Mathlib.Nat.{div-zero}
 use native.Mathlib.Omega.{arith}
-use Rattle.glass.specs.Gray.{grayOf}
 use Rattle.glass.proofs.GrayLaws.{rounded, rounded-fits, gray-white}
 use Rattle.glass.proofs.gray.Statement.{statement}
 use Rattle.glass.proofs.gray.Tie as tie

@@ -1,8 +1,7 @@
 -- `glass::gray_wide` meets its contract. The invariant is `Digits`, the measure the digits that are left.
-use Prim.Native.Nat.{ℕ, _<_, _≤_, _+_, _-_, _*_, min}
-use mathlib.Core.Path.{_≡_, sym}
+use Prim.Native.Nat.{_<_, _≤_, _+_, _-_, _*_}
+use mathlib.Core.Path.{_≡_}
 use native.Mathlib.Omega.{arith}
-use Rattle.glass.specs.Gray.{grayOf}
 use Rattle.glass.proofs.GrayLaws.{Digits, digits-more, digits-done, digits-small, rounded, rounded-down, rounded-up, rounded-fits}
 use Rattle.glass.proofs.gray_wide.Statement.{statement}
 use Rattle.glass.proofs.gray_wide.Tie as tie

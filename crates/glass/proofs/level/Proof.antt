@@ -1,5 +1,5 @@
 -- `glass::level` meets its contract: the split quotients fit 64 bits and sum to the quotient of the product.
-use Prim.Native.Nat.{_<_, _≤_, _+_, _*_, _/_, _%_}
+use Prim.Native.Nat.{_≤_, _*_, _/_, _%_}
 use native.Mathlib.Omega.{arith}
 use native.Mathlib.Nat.{mul-le-mul-left}
 use Rattle.glass.proofs.GrayLaws.{level-split}

@@ -1,11 +1,9 @@
 -- `numbers::eight_stored` meets its contract. After k turns the first k entries are written.
 use borrow.Author.Needs.{needs}
-use mathlib.Core.Path.{_≡_, refl, sym, ap, subst, _∙_}
-use mathlib.Core.List.{List}
-use Prim.Native.Nat.{ℕ, _+_, _-_, _*_, _≤_, _<_}
+use mathlib.Core.Path.{_≡_, refl, ap, _∙_}
+use Prim.Native.Nat.{ℕ, _+_, _-_, _≤_}
 use native.Mathlib.Omega.{arith}
 use lib.ListN.{length, set}
-use Rattle.ram.specs.Plane.{bitOf}
 use Rattle.numbers.specs.Filled.{filled}
 use Rattle.numbers.specs.Row.{numberOfBit}
 use Rattle.numbers.proofs.FilledLaws.{filled-more, length-filled}

@@ -1,5 +1,5 @@
 -- `numbers::number_in` meets its contract, by its two tests and the two bits.
-use borrow.Author.Tests.{le-leb, lt-leb, eq-eqb, ne-eqb}
+use borrow.Author.Tests.{le-leb, lt-leb}
 use Rattle.numbers.specs.Row.{numberIn}
 use borrow.Author.Needs.{needs}
 use Rattle.numbers.proofs.number_in.Statement.{statement}

@@ -1,10 +1,9 @@
 -- `numbers::number_some` meets its contract: eight numbers by a byte of each plane are those of the eight columns.
 use borrow.Author.Needs.{needs}
-use mathlib.Core.Path.{_≡_, refl, sym, ap, subst, _∙_}
-use mathlib.Core.List.{List}
-use Prim.Native.Nat.{ℕ, _+_, _-_, _*_, _≤_, _<_}
+use mathlib.Core.Path.{_≡_, sym, ap, _∙_}
+use Prim.Native.Nat.{_+_, _-_}
 use native.Mathlib.Omega.{arith}
-use lib.ListN.{length, getD, set}
+use lib.ListN.{set}
 use Rattle.numbers.specs.Filled.{filled}
 use Rattle.numbers.specs.Number.{shownAt}
 use Rattle.numbers.specs.Row.{numberIn, numberOfBit}

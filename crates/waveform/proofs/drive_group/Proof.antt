@@ -1,14 +1,12 @@
 -- `waveform::drive_group` meets its contract. After i rounds the run extends the first by their frames.
 use borrow.Author.Needs.{needs}
-use mathlib.Core.Path.{_≡_, refl, sym, ap, subst, _∙_}
-use mathlib.Core.List.{List, [], _∷_, _++_}
-use Prim.Native.Nat.{ℕ, _+_, _-_, _*_, _≤_, _<_}
+use mathlib.Core.Path.{subst}
+use mathlib.Core.List.{List}
+use Prim.Native.Nat.{ℕ, _-_, _≤_}
 use native.Mathlib.Omega.{arith}
 use lib.IntN.{ℤ}
 use Rattle.base.specs.InTurn.{inTurn}
 use Rattle.base.proofs.InTurn.{in-turn-more}
-use Rattle.waveform.specs.declared.Supply.{Supply}
-use Rattle.waveform.specs.declared.Group.{Group}
 use Rattle.waveform.specs.Frames.{roundFrames}
 use Rattle.waveform.specs.Progress.{Extends}
 use Rattle.waveform.proofs.ProgressLaws.{extends-none, extends-more}

@@ -1,12 +1,11 @@
 -- `waveform::drive_phase` meets its contract: it makes `phaseOf`, the held product of a held drive being the held product.
 use mathlib.Core.List.{_++_}
 use lib.ListN.{replicate}
-use lib.IntN.{ℤ}
 use Rattle.base.specs.Integer.{up, dn}
 use Rattle.waveform.specs.declared.Progress.{Progress}
 use Rattle.waveform.specs.Progress.{Driven}
-use mathlib.Core.Path.{_≡_, refl, sym, ap, subst⁻¹, _∙_}
-use Prim.Native.Nat.{ℕ, _+_, _-_, _*_, _≤_, _<_, min}
+use mathlib.Core.Path.{_≡_, ap, subst⁻¹, _∙_}
+use Prim.Native.Nat.{_+_, _-_, _*_, min}
 use native.Mathlib.Omega.{arith}
 use Rattle.base.specs.Word.{top}
 use Rattle.glass.specs.Transfer.{thenOf, shiftOf}

@@ -1,19 +1,19 @@
 -- `waveform::drive_table` meets its contract. After k groups the run extends the first by their frames.
 use borrow.Author.Needs.{needs}
-use mathlib.Core.Path.{_≡_, refl, sym, ap, subst, _∙_}
-use mathlib.Core.List.{List, [], _∷_, _++_}
-use Prim.Native.Nat.{ℕ, _+_, _-_, _*_, _≤_, _<_}
+use mathlib.Core.Path.{_≡_, sym, subst}
+use mathlib.Core.List.{List, []}
+use Prim.Native.Nat.{ℕ, _-_, _≤_, _<_}
 use native.Mathlib.Omega.{arith}
 use lib.ListN.{length, getD, take}
 use lib.IntN.{ℤ}
 use Rattle.base.specs.InTurn.{inTurn}
 use Rattle.base.proofs.InTurn.{in-turn-more}
-use Rattle.glass.specs.Transfer.{Acts, identityOf}
+use Rattle.glass.specs.Transfer.{Acts}
 use Rattle.waveform.specs.declared.Group.{Group}
 use Rattle.waveform.specs.declared.Supply.{Supply}
 use Rattle.waveform.specs.declared.Progress.{Progress}
 use Rattle.waveform.specs.Tables.{running}
-use Rattle.waveform.specs.Frames.{blank, vcomCodes, groupFrames, tableFrames}
+use Rattle.waveform.specs.Frames.{blank, vcomCodes, groupFrames}
 use Rattle.waveform.specs.Progress.{Driven, Extends}
 use Rattle.waveform.proofs.TableLaws.{unread, running-few, running-get}
 use Rattle.waveform.proofs.ProgressLaws.{extends-none, extends-more, driven-start}

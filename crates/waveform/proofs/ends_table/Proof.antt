@@ -1,6 +1,5 @@
 -- `waveform::ends_table` meets its contract, by its two tests.
 use borrow.Author.Tests.{eq-eqb, ne-eqb}
-use mathlib.Core.Path.{_≡_, refl, sym, ap, _∙_}
 use Rattle.waveform.specs.Tables.{ends}
 use borrow.Author.Needs.{needs}
 use Rattle.waveform.proofs.ends_table.Statement.{statement}

@@ -1,6 +1,6 @@
 -- `waveform::energy` meets its contract.
-use mathlib.Core.Path.{_≡_, refl, sym, ap, _∙_}
-use Prim.Native.Nat.{ℕ, _+_, _-_, _*_, _≤_, _<_, min}
+use mathlib.Core.Path.{ap, _∙_}
+use Prim.Native.Nat.{ℕ, _-_, _*_, min}
 use Rattle.base.specs.Word.{top}
 use borrow.Author.Needs.{needs}
 use Rattle.waveform.proofs.energy.Statement.{statement}

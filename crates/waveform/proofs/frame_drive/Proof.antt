@@ -1,12 +1,11 @@
 -- `waveform::frame_drive` meets its contract: the parts of the two levels give the parts of the drive.
 use borrow.Author.Tests.{eq-eqb, ne-eqb}
-use mathlib.Core.Path.{_≡_, refl, sym, ap, _∙_}
-use mathlib.Core.Bool.{Bool, true, false}
+use mathlib.Core.Path.{_≡_, sym, ap, _∙_}
+use mathlib.Core.Bool.{Bool, false}
 use lib.IntN.{ℤ}
 use Rattle.waveform.specs.declared.Drive.{Drive}
 use Rattle.waveform.specs.Progress.{Drives}
-use Prim.Native.Nat.{ℕ, _+_, _-_, _*_, _≤_, _<_, min}
-use native.Mathlib.Omega.{arith}
+use Prim.Native.Nat.{_+_, _-_, _*_, min}
 use Rattle.base.specs.Word.{top}
 use Rattle.waveform.specs.Levels.{levelOfCode, floats}
 use Rattle.waveform.specs.Frames.{driveOf}

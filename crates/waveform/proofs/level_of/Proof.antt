@@ -1,6 +1,5 @@
 -- `waveform::level_of` meets its contract, code by code.
 use borrow.Author.Tests.{eq-eqb, ne-eqb}
-use mathlib.Core.Path.{_≡_, refl, sym, ap, _∙_}
 use Rattle.base.proofs.Integer.{up-neg, dn-neg}
 use Rattle.waveform.specs.Levels.{levelOfCode}
 use Rattle.waveform.proofs.level_of.Statement.{statement}

@@ -1,7 +1,5 @@
 -- `waveform::round_frames` meets its contract: a sum of four bytes.
 use borrow.Author.Needs.{needs}
-use Prim.Native.Nat.{_+_, _≤_}
-use mathlib.Core.Path.{_≡_, _∙_, sym}
 use native.Mathlib.Omega.{arith}
 use Rattle.waveform.proofs.round_frames.Statement.{statement}
 use Rattle.waveform.proofs.round_frames.Tie as tie

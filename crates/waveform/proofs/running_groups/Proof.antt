@@ -1,10 +1,9 @@
 -- `waveform::running_groups` meets its contract. The groups passed and those that still run make those that run.
 use borrow.Author.Needs.{needs}
-use mathlib.Core.Path.{_≡_, refl, sym, ap, subst, _∙_}
-use mathlib.Core.List.{List, [], _∷_, _++_}
-use Prim.Native.Nat.{ℕ, _+_, _-_, _*_, _≤_, _<_}
+use mathlib.Core.Path.{_≡_, sym, ap, _∙_}
+use Prim.Native.Nat.{_+_, _-_, _≤_}
 use native.Mathlib.Omega.{arith}
-use lib.ListN.{length, getD, drop}
+use lib.ListN.{length, drop}
 use Rattle.waveform.specs.Tables.{running}
 use Rattle.waveform.proofs.TableLaws.{unread, running-ends, running-goes, running-done}
 use Rattle.waveform.proofs.running_groups.Statement.{statement}

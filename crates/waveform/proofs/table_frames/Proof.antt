@@ -1,11 +1,10 @@
 -- `waveform::table_frames` meets its contract. The frames summed and those of the groups to come make the table's.
 use borrow.Author.Needs.{needs}
-use mathlib.Core.Path.{_≡_, refl, sym, ap, subst, _∙_}
-use mathlib.Core.List.{List, [], _∷_, _++_}
-use Prim.Native.Nat.{ℕ, _+_, _-_, _*_, _≤_, _<_}
+use mathlib.Core.Path.{_≡_, sym, ap, _∙_}
+use Prim.Native.Nat.{_+_, _-_, _*_, _≤_}
 use native.Mathlib.Omega.{arith}
-use lib.ListN.{length, getD, drop}
-use Rattle.waveform.specs.Tables.{counted, countOf, running}
+use lib.ListN.{drop}
+use Rattle.waveform.specs.Tables.{counted, countOf}
 use Rattle.waveform.proofs.TableLaws.{unread, running-ends, running-goes, running-done}
 use Rattle.waveform.proofs.table_frames.Statement.{statement}
 use Rattle.waveform.proofs.table_frames.Tie as tie

@@ -1,10 +1,9 @@
 -- `waveform::vcom_codes` meets its contract: the groups that run are the first of the table, and past them all codes are 0.
 use borrow.Author.Needs.{needs}
-use mathlib.Core.Path.{_≡_, refl, sym, ap, subst, _∙_}
-use mathlib.Core.List.{List, [], _∷_, _++_}
-use Prim.Native.Nat.{ℕ, _+_, _-_, _*_, _≤_, _<_}
+use mathlib.Core.Path.{_≡_, sym, ap}
+use Prim.Native.Nat.{_-_, _<_}
 use native.Mathlib.Omega.{arith}
-use lib.ListN.{length, getD}
+use lib.ListN.{length}
 use Rattle.base.proofs.Lists.{getD-past}
 use Rattle.waveform.specs.declared.Group.{Group}
 use Rattle.waveform.specs.Tables.{running}

@@ -1,9 +1,7 @@
 -- `waveform::whole_frames` meets its contract.
 use borrow.Author.Needs.{needs}
-use mathlib.Core.Path.{_≡_, refl, sym, ap, subst, _∙_}
-use mathlib.Core.List.{List, [], _∷_, _++_}
-use Prim.Native.Nat.{ℕ, _+_, _-_, _*_, _≤_, _<_}
-use native.Mathlib.Omega.{arith}
+use mathlib.Core.Path.{sym, ap}
+use Prim.Native.Nat.{ℕ, _-_}
 use Prim.Native.Nat.{_/_}
 use native.Mathlib.Nat.{div-zero}
 use Rattle.waveform.proofs.whole_frames.Statement.{statement}

@@ -1,5 +1,5 @@
 -- `config::Uc8253Config::validate` meets its contract: the tests in document 01's order.
-use mathlib.Core.Path.{_≡_, sym, _∙_}
+use mathlib.Core.Path.{sym, _∙_}
 use borrow.Author.Needs.{needs}
 use Rattle.config.specs.Refusal.{refusal}
 use Rattle.config.proofs.Uc8253Config.validate.Statement.{statement}

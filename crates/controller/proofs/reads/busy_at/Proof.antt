@@ -2,7 +2,6 @@
 use borrow.Author.Needs.{needs}
 use Rattle.controller.proofs.reads.busy_at.Statement.{statement}
 use Rattle.controller.proofs.reads.busy_at.Tie as tie
-use Rattle.controller.proofs.reads.busy_at.Reads as reads
 
 enum-told : tie.Need-enum-told
 enum-told c = search needs

@@ -2,7 +2,6 @@
 use borrow.Author.Needs.{needs}
 use Rattle.controller.proofs.reads.driven_byte.Statement.{statement}
 use Rattle.controller.proofs.reads.driven_byte.Tie as tie
-use Rattle.controller.proofs.reads.driven_byte.Reads as reads
 
 enum-told : tie.Need-enum-told
 enum-told c = search needs

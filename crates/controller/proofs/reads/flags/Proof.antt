@@ -9,7 +9,6 @@ use Rattle.controller.specs.Reading.{flagsOf}
 use borrow.Author.Needs.{needs}
 use Rattle.controller.proofs.reads.flags.Statement.{statement}
 use Rattle.controller.proofs.reads.flags.Tie as tie
-use Rattle.controller.proofs.reads.flags.Reads as reads
 
 -- what is picked of two is at most what both are at most
 at-most : (t : Bool) (a b n : ℕ) {r : ℕ} → r ≡ pick t a b → a ≤ n → b ≤ n → r ≤ n

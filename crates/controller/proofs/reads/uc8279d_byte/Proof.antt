@@ -5,7 +5,6 @@ use Rattle.controller.proofs.Bytes.{revision, of-70, of-71, of-11, of-4
 use borrow.Author.Needs.{needs}
 use Rattle.controller.proofs.reads.uc8279d_byte.Statement.{statement}
 use Rattle.controller.proofs.reads.uc8279d_byte.Tie as tie
-use Rattle.controller.proofs.reads.uc8279d_byte.Reads as reads
 
 returns : tie.Need-returns
 returns c = at 0 revision (of-70 _ (c .before .match .keys1)) (c .if1 .taken) refl

@@ -2,7 +2,6 @@
 use borrow.Author.Needs.{needs}
 use Rattle.controller.proofs.reads.works.Statement.{statement}
 use Rattle.controller.proofs.reads.works.Tie as tie
-use Rattle.controller.proofs.reads.works.Reads as reads
 
 enum-told : tie.Need-enum-told
 enum-told c = search needs

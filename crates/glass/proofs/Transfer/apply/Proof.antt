@@ -1,7 +1,7 @@
 -- `glass::Transfer::apply` meets its contract: the sum is held to 64 bits before it is held to lo .. hi, which no end sees.
 use borrow.Author.Needs.{needs}
 use Prim.Native.Nat.{ℕ, _+_, _-_, _≤_, min, max}
-use mathlib.Core.Path.{_≡_, _∙_, ap, sym}
+use mathlib.Core.Path.{_≡_, _∙_, sym}
 use native.Mathlib.Omega.{arith}
 use Rattle.base.specs.Word.{top}
 use Rattle.glass.proofs.TransferLaws.{act-is}

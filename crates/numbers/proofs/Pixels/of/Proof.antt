@@ -3,7 +3,7 @@ use mathlib.Core.Bool.{Bool}
 use Prim.Native.Nat.{ℕ}
 use Rattle.numbers.specs.Number.{pixelsOf}
 use Rattle.base.specs.Pick.{pick}
-use mathlib.Core.Path.{_≡_, ap, _∙_}
+use mathlib.Core.Path.{ap, _∙_}
 use borrow.Author.Needs.{needs}
 use Rattle.numbers.proofs.Pixels.of.Statement.{statement}
 use Rattle.numbers.proofs.Pixels.of.Tie as tie

@@ -9,7 +9,6 @@ use mathlib.Core.Path.{ap, _∙_}
 use borrow.Author.Needs.{needs}
 use Rattle.uc8253.proofs.reading.read_under.Statement.{statement}
 use Rattle.uc8253.proofs.reading.read_under.Tie as tie
-use Rattle.uc8253.proofs.reading.read_under.Reads as reads
 
 enum-told : tie.Need-enum-told
 enum-told c = search needs

@@ -1,13 +1,10 @@
 -- `waveform::Waveform::duration_ns` meets its contract: the longest of five, and the tail, held.
 use borrow.Author.Needs.{needs}
-use mathlib.Core.Path.{_≡_, refl, sym, ap, subst, _∙_}
-use mathlib.Core.List.{List, [], _∷_, _++_}
-use Prim.Native.Nat.{ℕ, _+_, _-_, _*_, _≤_, _<_}
-use native.Mathlib.Omega.{arith}
+use mathlib.Core.Path.{_≡_, ap, _∙_}
+use Prim.Native.Nat.{ℕ, _+_, _-_, _*_}
 use Prim.Native.Nat.{min, max}
 use Rattle.base.specs.Word.{top}
-use Rattle.waveform.specs.declared.Table.{Table}
-use Rattle.waveform.specs.Tables.{counted, longest}
+use Rattle.waveform.specs.Tables.{longest}
 use Rattle.waveform.proofs.Waveform.duration_ns.Statement.{statement}
 use Rattle.waveform.proofs.Waveform.duration_ns.Tie as tie
 

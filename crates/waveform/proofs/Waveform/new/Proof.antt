@@ -1,11 +1,6 @@
 -- `waveform::Waveform::new` meets its contract, table by table.
 use borrow.Author.Needs.{needs}
-use mathlib.Core.Path.{_≡_, refl, sym, ap, subst, _∙_}
-use mathlib.Core.List.{List, [], _∷_, _++_}
-use Prim.Native.Nat.{ℕ, _+_, _-_, _*_, _≤_, _<_}
-use native.Mathlib.Omega.{arith}
-use Rattle.waveform.specs.declared.Table.{Table}
-use Rattle.waveform.specs.Tables.{heldOf, tablesOf}
+use Prim.Native.Nat.{_-_}
 use Rattle.waveform.proofs.Waveform.new.Statement.{statement}
 use Rattle.waveform.proofs.Waveform.new.Tie as tie
 

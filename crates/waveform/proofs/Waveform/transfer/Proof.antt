@@ -1,14 +1,14 @@
 -- `waveform::Waveform::transfer` meets its contract: the first frames, as many as the table has, are all.
 use borrow.Author.Needs.{needs}
-use mathlib.Core.Path.{_≡_, refl, sym, ap, subst, _∙_}
-use mathlib.Core.List.{List, [], _∷_, _++_}
-use Prim.Native.Nat.{ℕ, _+_, _-_, _*_, _≤_, _<_}
+use mathlib.Core.Path.{_≡_, subst}
+use mathlib.Core.List.{List}
+use Prim.Native.Nat.{_-_, _≤_}
 use native.Mathlib.Omega.{arith}
-use lib.ListN.{length, getD, take}
+use lib.ListN.{length}
 use lib.Seq.{take-all}
 use lib.IntN.{ℤ}
 use Rattle.base.proofs.Lists.{length-mapped}
-use Rattle.glass.specs.Transfer.{Acts, identityOf}
+use Rattle.glass.specs.Transfer.{Acts}
 use Rattle.glass.proofs.TransferLaws.{acts-identity}
 use Rattle.waveform.specs.Tables.{tableAt}
 use Rattle.waveform.specs.Frames.{framesOf}

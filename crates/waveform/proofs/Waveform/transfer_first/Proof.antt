@@ -1,14 +1,12 @@
 -- `waveform::Waveform::transfer_first` meets its contract: a number that no table has gives no frame.
 use borrow.Author.Needs.{needs}
-use mathlib.Core.Path.{_≡_, refl, sym, ap, subst, _∙_}
-use mathlib.Core.List.{List, [], _∷_, _++_}
-use Prim.Native.Nat.{ℕ, _+_, _-_, _*_, _≤_, _<_}
+use mathlib.Core.Path.{_≡_}
+use Prim.Native.Nat.{_-_}
 use native.Mathlib.Omega.{arith}
-use lib.ListN.{length, getD, take}
+use lib.ListN.{length}
 use lib.Seq.{take-nil}
 use lib.IntN.{ℤ}
 use Rattle.base.proofs.Lists.{length-mapped}
-use Rattle.glass.specs.Transfer.{Acts, identityOf}
 use Rattle.glass.proofs.TransferLaws.{acts-identity}
 use Rattle.waveform.proofs.FramesLaws.{frames-none}
 use Rattle.waveform.proofs.Waveform.transfer_first.Statement.{statement}
