@@ -8,3 +8,4 @@ pub mod TurnedBack
 pub mod Reset
 pub mod Sound
 pub mod Calls
+pub mod Lent

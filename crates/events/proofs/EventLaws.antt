@@ -74,8 +74,8 @@ does-nothing e w r =
 
 -- what a step hands back, by its three parts
 pub stepped : (e : Event) (w : World) {s : Stepped} {l : Buffers} (p : Uc8253) (n x : ℕ) → s ≡ record { chip = p; refused = n; answer = x } → Does e w (world p l) n x
-    → (world (s .chip) l ≡ eventDone e w) × ((s .refused ≡ eventRefused e w) × (s .answer ≡ eventAnswer e w))
-stepped e w {s} {l} p n x q d = (ap (λ (z : Stepped). world (z .chip) l) q ∙ d .done, (ap (λ (z : Stepped). z .refused) q ∙ d .turned, ap (λ (z : Stepped). z .answer) q ∙ d .gives))
+    → ((world (s .chip) l ≡ eventDone e w) × (s .refused ≡ eventRefused e w)) × (s .answer ≡ eventAnswer e w)
+stepped e w {s} {l} p n x q d = ((ap (λ (z : Stepped). world (z .chip) l) q ∙ d .done, ap (λ (z : Stepped). z .refused) q ∙ d .turned), ap (λ (z : Stepped). z .answer) q ∙ d .gives)
 
 -- ---- the bytes of an event
 pub event-past : (bytes : List ℕ) (i : ℕ) → length bytes / 10 < i → record { time = 0; kind = 0; value = 0 } ≡ eventAt bytes i

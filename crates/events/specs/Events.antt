@@ -64,3 +64,13 @@ earlier r s = pick (eqb r 0) s r
 -- the first refusal among the first n events, 0 if there is none
 unfoldable pub refusedIn : List ℕ → ℕ → World → ℕ
 refusedIn bytes n w = turns n (λ i r. earlier r (eventRefused (eventAt bytes i) (ranTo bytes i w))) 0
+
+-- all whole events: the world, the first refusal, the answers
+abbrev pub ran : List ℕ → World → World
+ran bytes w = ranTo bytes (eventsIn bytes) w
+
+abbrev pub refused : List ℕ → World → ℕ
+refused bytes w = refusedIn bytes (eventsIn bytes) w
+
+abbrev pub answers : List ℕ → List ℕ → World → List ℕ
+answers bytes given w = answersTo bytes (eventsIn bytes) w given

@@ -18,7 +18,8 @@ pub use steps::Stepped;
 pub use steps::read_number;
 pub use steps::step;
 ghost use mathlib.Core.Path.{_≡_};
-ghost use Rattle.controller.specs.World.{buffers, world};
+ghost use Rattle.controller.specs.World.{world};
+ghost use Rattle.controller.specs.Lent.{before, after, Gives, Called};
 ghost use Prim.Native.Nat.{_+_, _*_, _^_, _<_};
 ghost use lib.ListN.{set};
 ghost use Rattle.events.specs.Events as rule;
@@ -156,10 +157,8 @@ fn next_events(
     rows: &mut [u64],
 ) -> Went
     requires { ⌜ from < rule.eventsIn (now events) ⌝ }
-    ensures { λ r. ⌜ stretch.Goes (now (events .entry)) from (r .done)
-        (world p (buffers (now (old .entry)) (now (new .entry)) (now (states .entry)) (now (numbers .entry)) (now (picture .entry)) (now (rows .entry))))
-        (world (r .chip) (buffers (now (old .exit)) (now (new .exit)) (now (states .exit)) (now (numbers .exit)) (now (picture .exit)) (now (rows .exit))))
-        (now (answers .entry)) (now (answers .exit)) (r .refused) ⌝ }
+    ensures { λ r. ⌜ stretch.Goes (now (events .entry)) from (r .done) (world p (before old new states numbers picture rows))
+        (world (r .chip) (after old new states numbers picture rows)) (now (answers .entry)) (now (answers .exit)) (r .refused) ⌝ }
 {
     let f = stream(p, events, from, old, new, states, numbers, picture, rows);
     let chip = f.chip;
@@ -194,10 +193,10 @@ pub fn run(
     picture: &mut [u8],
     rows: &mut [u64],
 ) -> Ran
-    ensures { λ r. ⌜ world (r .chip) (buffers (now (old .exit)) (now (new .exit)) (now (states .exit)) (now (numbers .exit)) (now (picture .exit)) (now (rows .exit)))
-        ≡ rule.ranTo (now (events .entry)) (rule.eventsIn (now (events .entry))) (world p (buffers (now (old .entry)) (now (new .entry)) (now (states .entry)) (now (numbers .entry)) (now (picture .entry)) (now (rows .entry)))) ⌝ }
-    ensures { λ r. ⌜ (now (answers .exit) ≡ rule.answersTo (now (events .entry)) (rule.eventsIn (now (events .entry))) (world p (buffers (now (old .entry)) (now (new .entry)) (now (states .entry)) (now (numbers .entry)) (now (picture .entry)) (now (rows .entry)))) (now (answers .entry)))
-        × (r .refused ≡ rule.refusedIn (now (events .entry)) (rule.eventsIn (now (events .entry))) (world p (buffers (now (old .entry)) (now (new .entry)) (now (states .entry)) (now (numbers .entry)) (now (picture .entry)) (now (rows .entry))))) ⌝ }
+    ensures { λ r. ⌜ Called (rule.ran (now (events .entry))) (rule.refused (now (events .entry))) p (r .chip) (r .refused)
+        old new states numbers picture rows ⌝ }
+    ensures { λ r. ⌜ Gives (rule.answers (now (events .entry)) (now (answers .entry))) p (now (answers .exit))
+        old new states numbers picture rows ⌝ }
 {
     let count = events.len() / EVENT_BYTES;
     let mut chip = p;

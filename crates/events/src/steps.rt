@@ -1,6 +1,6 @@
 // One event: the call that its kind stands for, with the refusal's number and what a read gave.
 ghost use mathlib.Core.Path.{_≡_};
-ghost use Rattle.controller.specs.World.{buffers, world};
+ghost use Rattle.controller.specs.Lent.{Gives, Called};
 ghost use Rattle.events.specs.Events as rule;
 use crate::Event;
 use controller::Read;
@@ -83,10 +83,9 @@ pub fn step(
     picture: &mut [u8],
     rows: &mut [u64],
 ) -> Stepped
-    ensures { λ r. ⌜ world (r .chip) (buffers (now (old .exit)) (now (new .exit)) (now (states .exit)) (now (numbers .exit)) (now (picture .exit)) (now (rows .exit)))
-        ≡ rule.eventDone event (world p (buffers (now (old .entry)) (now (new .entry)) (now (states .entry)) (now (numbers .entry)) (now (picture .entry)) (now (rows .entry)))) ⌝ }
-    ensures { λ r. ⌜ (r .refused ≡ rule.eventRefused event (world p (buffers (now (old .entry)) (now (new .entry)) (now (states .entry)) (now (numbers .entry)) (now (picture .entry)) (now (rows .entry)))))
-        × (r .answer ≡ rule.eventAnswer event (world p (buffers (now (old .entry)) (now (new .entry)) (now (states .entry)) (now (numbers .entry)) (now (picture .entry)) (now (rows .entry))))) ⌝ }
+    ensures { λ r. ⌜ Called (rule.eventDone event) (rule.eventRefused event) p (r .chip) (r .refused)
+        old new states numbers picture rows ⌝ }
+    ensures { λ r. ⌜ Gives (rule.eventAnswer event) p (r .answer) old new states numbers picture rows ⌝ }
 {
     let at = event.time;
     let value = event.value;

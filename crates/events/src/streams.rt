@@ -2,7 +2,8 @@
 // plane, the cursor, the count and the clock, and touches the record once, at its end.
 ghost use mathlib.Core.Path.{_≡_};
 ghost use Prim.Native.Nat.{_≤_};
-ghost use Rattle.controller.specs.World.{buffers, world};
+ghost use Rattle.controller.specs.World.{world};
+ghost use Rattle.controller.specs.Lent.{before, after};
 ghost use Rattle.events.specs.Events.{eventsIn};
 ghost use Rattle.events.specs.Stretch as rule;
 use crate::DATA;
@@ -92,7 +93,8 @@ fn flow(
     clock: u64,
 ) -> Change
     requires { ⌜ from ≤ eventsIn (now events) ⌝ }
-    ensures { λ r. ⌜ rule.Flows (now (events .entry)) from area reported cursor received clock (now (plane .entry)) (now (plane .exit)) r ⌝ }
+    ensures { λ r. ⌜ rule.Flows (now (events .entry)) from area reported cursor received clock
+        (now (plane .entry)) (now (plane .exit)) r ⌝ }
 {
     let count = events.len() / EVENT_BYTES;
     let mut at = cursor;
@@ -254,8 +256,7 @@ pub(crate) fn stream(
 ) -> Flowed
     requires { ⌜ from ≤ eventsIn (now events) ⌝ }
     ensures { λ r. ⌜ rule.Stretch (now (events .entry)) from (r .done)
-        (world p (buffers (now (old .entry)) (now (new .entry)) (now (states .entry)) (now (numbers .entry)) (now (picture .entry)) (now (rows .entry))))
-        (world (r .chip) (buffers (now (old .exit)) (now (new .exit)) (now (states .entry)) (now (numbers .entry)) (now (picture .entry)) (now (rows .entry)))) ⌝ }
+        (world p (before old new states numbers picture rows)) (world (r .chip) (after old new states numbers picture rows)) ⌝ }
 {
     let stage = p.stage;
     let config = p.config;

@@ -36,10 +36,10 @@ world-given g q n m b e r = ap (λ (s : Uc8253). world s b) (chip-given g q n m 
 -- a call at a time: the world after it, its refusal and its answer
 pub passed : (f : World → World) (t a : World → ℕ) (h : Handed) (p : Uc8253) (g : Given) (q : Uc8253) (n m : ℕ) (b b′ : Buffers)
     → p ≡ takenOf h → g ≡ givenOf q n m → world q b′ ≡ f (world p b) → n ≡ t (world p b) → m ≡ a (world p b)
-    → (world (takenOf (g .chip)) b′ ≡ f (world (takenOf h) b)) × ((g .refused ≡ t (world (takenOf h) b)) × (g .answer ≡ a (world (takenOf h) b)))
+    → ((world (takenOf (g .chip)) b′ ≡ f (world (takenOf h) b)) × (g .refused ≡ t (world (takenOf h) b))) × (g .answer ≡ a (world (takenOf h) b))
 passed f t a h p g q n m b b′ e r w k l = (
-  world-given g q n m b′ r (of-taken f p h b e w),
-  (refused-given g q n m r ∙ of-taken t p h b e k, answer-given g q n m r ∙ of-taken a p h b e l),
+  (world-given g q n m b′ r (of-taken f p h b e w), refused-given g q n m r ∙ of-taken t p h b e k),
+  answer-given g q n m r ∙ of-taken a p h b e l,
 )
 
 -- a test as a number

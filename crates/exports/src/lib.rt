@@ -12,7 +12,7 @@ use taken::taken;
 ghost use mathlib.Core.Path.{_≡_};
 ghost use mathlib.Core.Bool.{false};
 ghost use Rattle.capture.specs.Layout.{configIn};
-ghost use Rattle.controller.specs.World.{Buffers, buffers, world, withRows};
+ghost use Rattle.controller.specs.Lent.{Gives, Called, Makes, TurnsRows};
 ghost use Rattle.controller.specs.TurnedBack as tests;
 ghost use Rattle.controller.specs.Calls as calls;
 ghost use Rattle.events.specs.Events as runs;
@@ -84,10 +84,8 @@ pub extern "C" fn jollanqe_make(
     picture: &mut [u8],
     rows: &mut [u64],
 ) -> Given
-    ensures { λ r. ⌜ world (takenOf (r .chip)) (buffers (now (old .exit)) (now (new .exit)) (now (states .exit)) (now (numbers .exit)) (now (picture .exit)) (now (rows .exit)))
-        ≡ calls.made (configIn (now (file .entry))) (buffers (now (old .entry)) (now (new .entry)) (now (states .entry)) (now (numbers .entry)) (now (picture .entry)) (now (rows .entry))) ⌝ }
-    ensures { λ r. ⌜ (r .refused ≡ tests.makingRefused (configIn (now (file .entry))) (buffers (now (old .entry)) (now (new .entry)) (now (states .entry)) (now (numbers .entry)) (now (picture .entry)) (now (rows .entry))))
-        × (r .answer ≡ 257) ⌝ }
+    ensures { λ r. ⌜ Makes (calls.made (configIn (now (file .entry)))) (tests.makingRefused (configIn (now (file .entry))))
+        (takenOf (r .chip)) (r .refused) old new states numbers picture rows × (r .answer ≡ 257) ⌝ }
 {
     let config = config(file);
     no_read(power_on(config, old, new, states, numbers, picture, rows))
@@ -106,10 +104,8 @@ pub extern "C" fn jollanqe_command(
     picture: &mut [u8],
     rows: &mut [u64],
 ) -> Given
-    ensures { λ r. ⌜ world (takenOf (r .chip)) (buffers (now (old .exit)) (now (new .exit)) (now (states .exit)) (now (numbers .exit)) (now (picture .exit)) (now (rows .exit)))
-        ≡ calls.commandCall at command (world (takenOf chip) (buffers (now (old .entry)) (now (new .entry)) (now (states .entry)) (now (numbers .entry)) (now (picture .entry)) (now (rows .entry)))) ⌝ }
-    ensures { λ r. ⌜ (r .refused ≡ tests.turnedBack false at (world (takenOf chip) (buffers (now (old .entry)) (now (new .entry)) (now (states .entry)) (now (numbers .entry)) (now (picture .entry)) (now (rows .entry)))))
-        × (r .answer ≡ 257) ⌝ }
+    ensures { λ r. ⌜ Called (calls.commandCall at command) (tests.turnedBack false at) (takenOf chip) (takenOf (r .chip)) (r .refused)
+        old new states numbers picture rows × (r .answer ≡ 257) ⌝ }
 {
     let p = taken(chip);
     no_read(write_command(p, at, command, old, new, states, numbers, picture, rows))
@@ -128,10 +124,8 @@ pub extern "C" fn jollanqe_data(
     picture: &mut [u8],
     rows: &mut [u64],
 ) -> Given
-    ensures { λ r. ⌜ world (takenOf (r .chip)) (buffers (now (old .exit)) (now (new .exit)) (now (states .exit)) (now (numbers .exit)) (now (picture .exit)) (now (rows .exit)))
-        ≡ calls.dataCall at byte (world (takenOf chip) (buffers (now (old .entry)) (now (new .entry)) (now (states .entry)) (now (numbers .entry)) (now (picture .entry)) (now (rows .entry)))) ⌝ }
-    ensures { λ r. ⌜ (r .refused ≡ tests.turnedBack false at (world (takenOf chip) (buffers (now (old .entry)) (now (new .entry)) (now (states .entry)) (now (numbers .entry)) (now (picture .entry)) (now (rows .entry)))))
-        × (r .answer ≡ 257) ⌝ }
+    ensures { λ r. ⌜ Called (calls.dataCall at byte) (tests.turnedBack false at) (takenOf chip) (takenOf (r .chip)) (r .refused)
+        old new states numbers picture rows × (r .answer ≡ 257) ⌝ }
 {
     let p = taken(chip);
     no_read(write_data(p, at, byte, old, new, states, numbers, picture, rows))
@@ -149,10 +143,10 @@ pub extern "C" fn jollanqe_read(
     picture: &mut [u8],
     rows: &mut [u64],
 ) -> Given
-    ensures { λ r. ⌜ world (takenOf (r .chip)) (buffers (now (old .exit)) (now (new .exit)) (now (states .exit)) (now (numbers .exit)) (now (picture .exit)) (now (rows .exit)))
-        ≡ calls.readCall at (world (takenOf chip) (buffers (now (old .entry)) (now (new .entry)) (now (states .entry)) (now (numbers .entry)) (now (picture .entry)) (now (rows .entry)))) ⌝ }
-    ensures { λ r. ⌜ (r .refused ≡ tests.turnedBack false at (world (takenOf chip) (buffers (now (old .entry)) (now (new .entry)) (now (states .entry)) (now (numbers .entry)) (now (picture .entry)) (now (rows .entry)))))
-        × (r .answer ≡ runs.readNumber (calls.readAnswer at (world (takenOf chip) (buffers (now (old .entry)) (now (new .entry)) (now (states .entry)) (now (numbers .entry)) (now (picture .entry)) (now (rows .entry)))))) ⌝ }
+    ensures { λ r. ⌜ Called (calls.readCall at) (tests.turnedBack false at) (takenOf chip) (takenOf (r .chip)) (r .refused)
+        old new states numbers picture rows ⌝ }
+    ensures { λ r. ⌜ Gives (λ w. runs.readNumber (calls.readAnswer at w)) (takenOf chip) (r .answer)
+        old new states numbers picture rows ⌝ }
 {
     let p = taken(chip);
     let a = read_data(p, at, old, new, states, numbers, picture, rows);
@@ -174,10 +168,8 @@ pub extern "C" fn jollanqe_reset(
     picture: &mut [u8],
     rows: &mut [u64],
 ) -> Given
-    ensures { λ r. ⌜ world (takenOf (r .chip)) (buffers (now (old .exit)) (now (new .exit)) (now (states .exit)) (now (numbers .exit)) (now (picture .exit)) (now (rows .exit)))
-        ≡ calls.resetCall at asserted (world (takenOf chip) (buffers (now (old .entry)) (now (new .entry)) (now (states .entry)) (now (numbers .entry)) (now (picture .entry)) (now (rows .entry)))) ⌝ }
-    ensures { λ r. ⌜ (r .refused ≡ tests.turnedBack asserted at (world (takenOf chip) (buffers (now (old .entry)) (now (new .entry)) (now (states .entry)) (now (numbers .entry)) (now (picture .entry)) (now (rows .entry)))))
-        × (r .answer ≡ 257) ⌝ }
+    ensures { λ r. ⌜ Called (calls.resetCall at asserted) (tests.turnedBack asserted at) (takenOf chip) (takenOf (r .chip)) (r .refused)
+        old new states numbers picture rows × (r .answer ≡ 257) ⌝ }
 {
     let p = taken(chip);
     no_read(set_reset(p, at, asserted, old, new, states, numbers, picture, rows))
@@ -195,10 +187,8 @@ pub extern "C" fn jollanqe_advance(
     picture: &mut [u8],
     rows: &mut [u64],
 ) -> Given
-    ensures { λ r. ⌜ world (takenOf (r .chip)) (buffers (now (old .exit)) (now (new .exit)) (now (states .exit)) (now (numbers .exit)) (now (picture .exit)) (now (rows .exit)))
-        ≡ calls.advanceCall at (world (takenOf chip) (buffers (now (old .entry)) (now (new .entry)) (now (states .entry)) (now (numbers .entry)) (now (picture .entry)) (now (rows .entry)))) ⌝ }
-    ensures { λ r. ⌜ (r .refused ≡ tests.turnedBack false at (world (takenOf chip) (buffers (now (old .entry)) (now (new .entry)) (now (states .entry)) (now (numbers .entry)) (now (picture .entry)) (now (rows .entry)))))
-        × (r .answer ≡ 257) ⌝ }
+    ensures { λ r. ⌜ Called (calls.advanceCall at) (tests.turnedBack false at) (takenOf chip) (takenOf (r .chip)) (r .refused)
+        old new states numbers picture rows × (r .answer ≡ 257) ⌝ }
 {
     let p = taken(chip);
     no_read(advance(p, at, old, new, states, numbers, picture, rows))
@@ -217,11 +207,10 @@ pub extern "C" fn jollanqe_run(
     picture: &mut [u8],
     rows: &mut [u64],
 ) -> Given
-    ensures { λ r. ⌜ world (takenOf (r .chip)) (buffers (now (old .exit)) (now (new .exit)) (now (states .exit)) (now (numbers .exit)) (now (picture .exit)) (now (rows .exit)))
-        ≡ runs.ranTo (now (events .entry)) (runs.eventsIn (now (events .entry))) (world (takenOf chip) (buffers (now (old .entry)) (now (new .entry)) (now (states .entry)) (now (numbers .entry)) (now (picture .entry)) (now (rows .entry)))) ⌝ }
-    ensures { λ r. ⌜ (now (answers .exit) ≡ runs.answersTo (now (events .entry)) (runs.eventsIn (now (events .entry))) (world (takenOf chip) (buffers (now (old .entry)) (now (new .entry)) (now (states .entry)) (now (numbers .entry)) (now (picture .entry)) (now (rows .entry)))) (now (answers .entry)))
-        × (r .refused ≡ runs.refusedIn (now (events .entry)) (runs.eventsIn (now (events .entry))) (world (takenOf chip) (buffers (now (old .entry)) (now (new .entry)) (now (states .entry)) (now (numbers .entry)) (now (picture .entry)) (now (rows .entry)))))
-        × (r .answer ≡ 257) ⌝ }
+    ensures { λ r. ⌜ Called (runs.ran (now (events .entry))) (runs.refused (now (events .entry)))
+        (takenOf chip) (takenOf (r .chip)) (r .refused) old new states numbers picture rows × (r .answer ≡ 257) ⌝ }
+    ensures { λ r. ⌜ Gives (runs.answers (now (events .entry)) (now (answers .entry))) (takenOf chip) (now (answers .exit))
+        old new states numbers picture rows ⌝ }
 {
     let p = taken(chip);
     let ran = run(p, events, answers, old, new, states, numbers, picture, rows);
@@ -232,8 +221,8 @@ pub extern "C" fn jollanqe_run(
 // The rows are taken: the answer is how many.
 #[no_mangle]
 pub extern "C" fn jollanqe_take(chip: Handed, rows: &[u64]) -> Given
-    ensures { λ r. ⌜ ((b : Buffers) → world (takenOf (r .chip)) (withRows (now (rows .entry)) b) ≡ calls.takeCall (world (takenOf chip) (withRows (now (rows .entry)) b)))
-        × (r .refused ≡ calls.takingRefused (takenOf chip) (now (rows .entry))) × (r .answer ≡ calls.takenRows (takenOf chip) (now (rows .entry))) ⌝ }
+    ensures { λ r. let p = takenOf chip in ⌜ TurnsRows calls.takeCall p (takenOf (r .chip)) rows
+        × (r .refused ≡ calls.takingRefused p (now (rows .entry))) × (r .answer ≡ calls.takenRows p (now (rows .entry))) ⌝ }
 {
     let p = taken(chip);
     let t = take_diagnostics(p, rows);

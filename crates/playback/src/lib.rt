@@ -1,7 +1,7 @@
 // A capture through the controller: its tests, the making, and then its events, one call after the
 // other.
 ghost use mathlib.Core.Path.{_≡_};
-ghost use Rattle.controller.specs.World.{buffers, world};
+ghost use Rattle.controller.specs.Lent.{before, Makes};
 ghost use Rattle.playback.specs.Played as rule;
 use capture::config;
 use capture::events_end;
@@ -27,10 +27,10 @@ fn play_taken(
     picture: &mut [u8],
     rows: &mut [u64],
 ) -> Played
-    ensures { λ r. ⌜ world (r .chip) (buffers (now (old .exit)) (now (new .exit)) (now (states .exit)) (now (numbers .exit)) (now (picture .exit)) (now (rows .exit)))
-        ≡ rule.playedTaken (now (file .entry)) (buffers (now (old .entry)) (now (new .entry)) (now (states .entry)) (now (numbers .entry)) (now (picture .entry)) (now (rows .entry))) ⌝ }
-    ensures { λ r. ⌜ (now (answers .exit) ≡ rule.answersTaken (now (file .entry)) (buffers (now (old .entry)) (now (new .entry)) (now (states .entry)) (now (numbers .entry)) (now (picture .entry)) (now (rows .entry))) (now (answers .entry)))
-        × (r .refused ≡ rule.makingOf (now (file .entry)) (buffers (now (old .entry)) (now (new .entry)) (now (states .entry)) (now (numbers .entry)) (now (picture .entry)) (now (rows .entry)))) ⌝ }
+    ensures { λ r. ⌜ Makes (rule.playedTaken (now (file .entry))) (rule.makingOf (now (file .entry))) (r .chip) (r .refused)
+        old new states numbers picture rows ⌝ }
+    ensures { λ r. ⌜ now (answers .exit)
+        ≡ rule.answersTaken (now (file .entry)) (before old new states numbers picture rows) (now (answers .entry)) ⌝ }
 {
     let made = power_on(config(file), old, new, states, numbers, picture, rows);
     let chip = made.chip;
@@ -70,10 +70,10 @@ pub fn play(
     picture: &mut [u8],
     rows: &mut [u64],
 ) -> Played
-    ensures { λ r. ⌜ world (r .chip) (buffers (now (old .exit)) (now (new .exit)) (now (states .exit)) (now (numbers .exit)) (now (picture .exit)) (now (rows .exit)))
-        ≡ rule.played (now (file .entry)) (buffers (now (old .entry)) (now (new .entry)) (now (states .entry)) (now (numbers .entry)) (now (picture .entry)) (now (rows .entry))) ⌝ }
-    ensures { λ r. ⌜ (now (answers .exit) ≡ rule.answersPlayed (now (file .entry)) (buffers (now (old .entry)) (now (new .entry)) (now (states .entry)) (now (numbers .entry)) (now (picture .entry)) (now (rows .entry))) (now (answers .entry)))
-        × (r .refused ≡ rule.playRefused (now (file .entry)) (buffers (now (old .entry)) (now (new .entry)) (now (states .entry)) (now (numbers .entry)) (now (picture .entry)) (now (rows .entry)))) ⌝ }
+    ensures { λ r. ⌜ Makes (rule.played (now (file .entry))) (rule.playRefused (now (file .entry))) (r .chip) (r .refused)
+        old new states numbers picture rows ⌝ }
+    ensures { λ r. ⌜ now (answers .exit)
+        ≡ rule.answersPlayed (now (file .entry)) (before old new states numbers picture rows) (now (answers .entry)) ⌝ }
 {
     let refused = capture::refused(file);
     if refused != 0 {

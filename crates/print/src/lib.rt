@@ -8,7 +8,7 @@ mod text;
 
 ghost use mathlib.Core.Path.{_≡_};
 ghost use Prim.Native.Nat.{_≤_};
-ghost use Rattle.controller.specs.World.{buffers};
+ghost use Rattle.controller.specs.Lent.{before};
 ghost use Rattle.playback.specs.Played as rule;
 ghost use Rattle.print.specs.Shown.{room, shown};
 use playback::Played;
@@ -59,8 +59,8 @@ fn play_in(
     picture: &mut [u8],
     rows: &mut [u64],
 )
-    ensures { λ r. ⌜ now (old .exit) ≡ rule.played (now (file .entry)) (buffers (now (old .entry)) (now (new .entry)) (now (states .entry)) (now (numbers .entry)) (now (picture .entry)) (now (rows .entry))) .lent .old ⌝ }
-    ensures { λ r. ⌜ now (new .exit) ≡ rule.played (now (file .entry)) (buffers (now (old .entry)) (now (new .entry)) (now (states .entry)) (now (numbers .entry)) (now (picture .entry)) (now (rows .entry))) .lent .new ⌝ }
+    ensures { λ r. ⌜ now (old .exit) ≡ rule.played (now (file .entry)) (before old new states numbers picture rows) .lent .old ⌝ }
+    ensures { λ r. ⌜ now (new .exit) ≡ rule.played (now (file .entry)) (before old new states numbers picture rows) .lent .new ⌝ }
 {
     let played = play(file, answers, old, new, states, numbers, picture, rows);
     write(file, form, played, answers, picture, rows);

@@ -1,13 +1,15 @@
 -- The calls in smaller steps, as the code takes them: parts of the definitions of `controller`, each under a name.
-use mathlib.Core.Bool.{false}
+use mathlib.Core.Path.{_≡_}
+use mathlib.Core.Bool.{true, false}
 use mathlib.Core.List.{List}
-use Prim.Native.Nat.{ℕ}
+use Prim.Native.Nat.{ℕ, _≤_}
 use lib.IntN.{ℤ}
+use denote.Ref.{now}
 use Rattle.base.specs.Pick.{pick}
 use Rattle.command.specs.Kinds.{kindOf}
 use Rattle.config.specs.declared.Uc8253Config.{Uc8253Config}
 use Rattle.glass.specs.declared.RefreshKind.the-variants as shown
-use Rattle.pixels.specs.States.{everyState, everyNumber}
+use Rattle.pixels.specs.States.{most, everyState, everyNumber}
 use Rattle.ram.specs.Copy.{copied}
 use Rattle.registers.specs.declared.Area.{Area}
 use Rattle.registers.specs.declared.Registers.{Registers}
@@ -18,6 +20,7 @@ use Rattle.controller.specs.declared.Work.the-variants as work
 use Rattle.controller.specs.declared.Current.the-variants as current
 use Rattle.controller.specs.declared.Uc8253.{Uc8253}
 use Rattle.controller.specs.World.{World, onChip, withOperation, withPower, withPowered}
+use Rattle.controller.specs.Lent.{Slice}
 use Rattle.controller.specs.Arrives.{rest, starting}
 use Rattle.controller.specs.Command.{sortedBy, closed}
 use Rattle.controller.specs.Reset.{cut, cleared}
@@ -60,3 +63,10 @@ fresh c r = record {
   log = record { stored = 0; dropped = 0 };
   now = 0;
 }
+
+-- what driving asks: of the swing, and of the states
+abbrev pub SwingFits : Uc8253 → Type 0
+SwingFits p = p .config .optics .«full_swing» ≤ most
+
+abbrev pub StatesFit : Uc8253 → Slice ℤ → Type 0
+StatesFit p states = everyState (p .config .optics .«full_swing») (now states) ≡ true

@@ -3,11 +3,11 @@ ghost use mathlib.Core.Path.{_≡_};
 ghost use Rattle.uc8253.specs.Steps as steps;
 ghost use mathlib.Core.Bool.{true, false};
 ghost use mathlib.Core.List.{List};
-ghost use Prim.Native.Nat.{ℕ, _≤_};
-ghost use Rattle.pixels.specs.States.{most, everyState};
-ghost use Rattle.controller.specs.World.{buffers, world, withOperation, withPowered};
+ghost use Prim.Native.Nat.{ℕ};
+ghost use Rattle.controller.specs.World.{withOperation, withPowered};
 ghost use Rattle.controller.specs.TurnedBack.{refreshRuns, endsRefresh};
 ghost use Rattle.controller.specs.Arrives as arrives;
+ghost use Rattle.controller.specs.Lent.{kept, Turns};
 use crate::refreshes::finish_whole;
 use crate::telling::rested;
 use base::greatest;
@@ -46,9 +46,8 @@ fn end(
     numbers: &[u8],
     picture: &mut [u8],
 ) -> Uc8253
-    requires { ⌜ (p .config .optics .«full_swing» ≤ most) × (refreshRuns (p .operation .work) ≡ true → everyState (p .config .optics .«full_swing») (now states) ≡ true) ⌝ }
-    ensures { λ r. ⌜ ((rows : List ℕ) → world r (buffers (now (old .exit)) (now (new .entry)) (now (states .exit)) (now (numbers .entry)) (now (picture .exit)) rows)
-        ≡ arrives.endedBy (p .operation .work) (world p (buffers (now (old .entry)) (now (new .entry)) (now (states .entry)) (now (numbers .entry)) (now (picture .entry)) rows))) ⌝ }
+    requires { ⌜ steps.SwingFits p × (refreshRuns (p .operation .work) ≡ true → steps.StatesFit p states) ⌝ }
+    ensures { λ r. ⌜ ((rows : List ℕ) → Turns (arrives.endedBy (p .operation .work)) p r old new states numbers picture (kept rows)) ⌝ }
 {
     let operation = p.operation;
     let work = operation.work;
@@ -76,9 +75,8 @@ pub(crate) fn arrive(
     numbers: &[u8],
     picture: &mut [u8],
 ) -> Uc8253
-    requires { ⌜ (p .config .optics .«full_swing» ≤ most) × (endsRefresh false at p ≡ true → everyState (p .config .optics .«full_swing») (now states) ≡ true) ⌝ }
-    ensures { λ r. ⌜ ((rows : List ℕ) → world r (buffers (now (old .exit)) (now (new .entry)) (now (states .exit)) (now (numbers .entry)) (now (picture .exit)) rows)
-        ≡ arrives.arrived at (world p (buffers (now (old .entry)) (now (new .entry)) (now (states .entry)) (now (numbers .entry)) (now (picture .entry)) rows))) ⌝ }
+    requires { ⌜ steps.SwingFits p × (endsRefresh false at p ≡ true → steps.StatesFit p states) ⌝ }
+    ensures { λ r. ⌜ ((rows : List ℕ) → Turns (arrives.arrived at) p r old new states numbers picture (kept rows)) ⌝ }
 {
     let mut q = p;
     q.now = greatest(p.now, at);

@@ -4,8 +4,8 @@ ghost use Rattle.uc8253.specs.Steps as steps;
 ghost use mathlib.Core.List.{List};
 ghost use Prim.Native.Nat.{ℕ};
 ghost use lib.IntN.{ℤ};
-ghost use Rattle.controller.specs.World.{Buffers, world, buffers, withRows};
 ghost use Rattle.controller.specs.Command as rule;
+ghost use Rattle.controller.specs.Lent.{kept, Turns, TurnsRows};
 use crate::refreshes::refresh;
 use crate::telling::start;
 use crate::telling::tell;
@@ -33,7 +33,7 @@ use ram::Cursor;
 
 // The command under way ends (another one, or a reset, comes).
 pub(crate) fn close(p: Uc8253, rows: &mut [u64]) -> Uc8253
-    ensures { λ r. ⌜ ((b : Buffers) → world r (withRows (now (rows .exit)) b) ≡ rule.closed (world p (withRows (now (rows .entry)) b))) ⌝ }
+    ensures { λ r. ⌜ TurnsRows rule.closed p r rows ⌝ }
 {
     let stage = p.stage;
     let current = stage.current;
@@ -78,8 +78,8 @@ fn execute(
     table_numbers: &mut [u8],
     rows: &mut [u64],
 ) -> Uc8253
-    ensures { λ r. ⌜ ((states : List ℤ) (picture : List ℕ) → world r (buffers (now (old .entry)) (now (new .entry)) states (now («table_numbers» .exit)) picture (now (rows .exit)))
-        ≡ rule.executed command (world p (buffers (now (old .entry)) (now (new .entry)) states (now («table_numbers» .entry)) picture (now (rows .entry))))) ⌝ }
+    ensures { λ r. ⌜ ((states : List ℤ) (picture : List ℕ)
+        → Turns (rule.executed command) p r old new (kept states) «table_numbers» (kept picture) rows) ⌝ }
 {
     let mut q = p;
     match command {
@@ -125,8 +125,8 @@ fn accept(
     table_numbers: &mut [u8],
     rows: &mut [u64],
 ) -> Uc8253
-    ensures { λ r. ⌜ ((states : List ℤ) (picture : List ℕ) → world r (buffers (now (old .entry)) (now (new .entry)) states (now («table_numbers» .exit)) picture (now (rows .exit)))
-        ≡ steps.accepted command (world p (buffers (now (old .entry)) (now (new .entry)) states (now («table_numbers» .entry)) picture (now (rows .entry))))) ⌝ }
+    ensures { λ r. ⌜ ((states : List ℤ) (picture : List ℕ)
+        → Turns (steps.accepted command) p r old new (kept states) «table_numbers» (kept picture) rows) ⌝ }
 {
     let config = p.config;
     let variant = config.variant;
@@ -160,8 +160,8 @@ fn pass(
     table_numbers: &mut [u8],
     rows: &mut [u64],
 ) -> Uc8253
-    ensures { λ r. ⌜ ((states : List ℤ) (picture : List ℕ) → world r (buffers (now (old .entry)) (now (new .entry)) states (now («table_numbers» .exit)) picture (now (rows .exit)))
-        ≡ rule.passed command (world p (buffers (now (old .entry)) (now (new .entry)) states (now («table_numbers» .entry)) picture (now (rows .entry))))) ⌝ }
+    ensures { λ r. ⌜ ((states : List ℤ) (picture : List ℕ)
+        → Turns (rule.passed command) p r old new (kept states) «table_numbers» (kept picture) rows) ⌝ }
 {
     let mode = p.mode;
     let operation = p.operation;
@@ -184,8 +184,8 @@ pub(crate) fn command_byte(
     table_numbers: &mut [u8],
     rows: &mut [u64],
 ) -> Uc8253
-    ensures { λ r. ⌜ ((states : List ℤ) (picture : List ℕ) → world r (buffers (now (old .entry)) (now (new .entry)) states (now («table_numbers» .exit)) picture (now (rows .exit)))
-        ≡ rule.commandByte command (world p (buffers (now (old .entry)) (now (new .entry)) states (now («table_numbers» .entry)) picture (now (rows .entry))))) ⌝ }
+    ensures { λ r. ⌜ ((states : List ℤ) (picture : List ℕ)
+        → Turns (rule.commandByte command) p r old new (kept states) «table_numbers» (kept picture) rows) ⌝ }
 {
     let q = close(p, rows);
     pass(q, command, old, new, table_numbers, rows)

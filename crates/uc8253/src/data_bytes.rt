@@ -3,8 +3,9 @@ ghost use mathlib.Core.Path.{_≡_};
 ghost use mathlib.Core.List.{List};
 ghost use Prim.Native.Nat.{ℕ};
 ghost use lib.IntN.{ℤ};
-ghost use Rattle.controller.specs.World.{Buffers, world, buffers, withRows, withOld, withNew};
+ghost use Rattle.controller.specs.World.{withOld, withNew};
 ghost use Rattle.controller.specs.DataByte as rule;
+ghost use Rattle.controller.specs.Lent.{kept, Turns, TurnsRows, TurnsPlane};
 use crate::telling::start;
 use crate::telling::tell;
 use crate::telling::with_current;
@@ -49,7 +50,7 @@ fn softly(a: Active) -> Active
 
 // A pixel byte past the last row is reported once.
 fn past_window(p: Uc8253, a: Active, rows: &mut [u64]) -> Uc8253
-    ensures { λ r. ⌜ ((b : Buffers) → world r (withRows (now (rows .exit)) b) ≡ rule.pastWindow a (world p (withRows (now (rows .entry)) b))) ⌝ }
+    ensures { λ r. ⌜ TurnsRows (rule.pastWindow a) p r rows ⌝ }
 {
     if a.past_reported {
         return with_current(p, Current::Active(a));
@@ -66,8 +67,8 @@ fn past_window(p: Uc8253, a: Active, rows: &mut [u64]) -> Uc8253
 
 // A pixel byte: eight pixels at the cursor, which goes on.
 fn pixel_byte(p: Uc8253, a: Active, byte: u8, plane: &mut [u8], rows: &mut [u64]) -> Uc8253
-    ensures { λ r. ⌜ ((b : Buffers) → world r (withRows (now (rows .exit)) (withOld (now (plane .exit)) b)) ≡ rule.olderByte a byte (world p (withRows (now (rows .entry)) (withOld (now (plane .entry)) b))))
-        × ((b : Buffers) → world r (withRows (now (rows .exit)) (withNew (now (plane .exit)) b)) ≡ rule.newerByte a byte (world p (withRows (now (rows .entry)) (withNew (now (plane .entry)) b)))) ⌝ }
+    ensures { λ r. ⌜ TurnsPlane withOld (rule.olderByte a byte) p r plane rows
+        × TurnsPlane withNew (rule.newerByte a byte) p r plane rows ⌝ }
 {
     let regs = p.regs;
     let area = regs.written();
@@ -114,8 +115,8 @@ fn take_byte(
     new: &mut [u8],
     rows: &mut [u64],
 ) -> Uc8253
-    ensures { λ r. ⌜ ((states : List ℤ) (numbers picture : List ℕ) → world r (buffers (now (old .exit)) (now (new .exit)) states numbers picture (now (rows .exit)))
-        ≡ rule.usedBy (rule.purposeOf a byte) a byte (world p (buffers (now (old .entry)) (now (new .entry)) states numbers picture (now (rows .entry))))) ⌝ }
+    ensures { λ r. ⌜ ((states : List ℤ) (numbers picture : List ℕ)
+        → Turns (rule.usedBy (rule.purposeOf a byte) a byte) p r old new (kept states) (kept numbers) (kept picture) rows) ⌝ }
 {
     let b = more(a);
     let used = purpose(a, byte);
@@ -155,8 +156,8 @@ pub(crate) fn data_byte(
     new: &mut [u8],
     rows: &mut [u64],
 ) -> Uc8253
-    ensures { λ r. ⌜ ((states : List ℤ) (numbers picture : List ℕ) → world r (buffers (now (old .exit)) (now (new .exit)) states numbers picture (now (rows .exit)))
-        ≡ rule.dataByte byte (world p (buffers (now (old .entry)) (now (new .entry)) states numbers picture (now (rows .entry))))) ⌝ }
+    ensures { λ r. ⌜ ((states : List ℤ) (numbers picture : List ℕ)
+        → Turns (rule.dataByte byte) p r old new (kept states) (kept numbers) (kept picture) rows) ⌝ }
 {
     let stage = p.stage;
     let current = stage.current;

@@ -28,18 +28,16 @@ pub use questions::row_refused;
 pub use questions::take_diagnostics;
 ghost use mathlib.Core.Path.{_≡_};
 ghost use mathlib.Core.Bool.{true, false};
-ghost use Prim.Native.Nat.{_≤_};
-ghost use Rattle.pixels.specs.States.{most, everyState};
 ghost use Rattle.controller.specs.Arrives.{arrived};
 ghost use Rattle.controller.specs.Command.{commandByte};
 ghost use Rattle.controller.specs.DataByte.{dataByte};
 ghost use Rattle.controller.specs.Reading.{reading, readOf};
 ghost use Rattle.controller.specs.Reset.{resetEdge};
-ghost use Rattle.controller.specs.TurnedBack.{endsRefresh};
+ghost use Rattle.controller.specs.TurnedBack.{endsRefresh, turnedBack};
 ghost use Rattle.uc8253.specs.Steps as steps;
-ghost use Rattle.controller.specs.World.{buffers, world};
-ghost use Rattle.controller.specs.TurnedBack as tests;
+ghost use Rattle.controller.specs.World.{world};
 ghost use Rattle.controller.specs.Calls.{commandCall, dataCall, readCall, readAnswer, resetCall, advanceCall};
+ghost use Rattle.controller.specs.Lent.{lent, Turns, Gives, Called};
 use arriving::arrive;
 use commands::command_byte;
 use controller::Read;
@@ -79,7 +77,7 @@ fn turned_back(
     picture: &[u8],
     rows: &[u64],
 ) -> u8
-    ensures { λ r. ⌜ r ≡ tests.turnedBack asserted at (world p (buffers (now (old .entry)) (now (new .entry)) (now (states .entry)) (now (numbers .entry)) (now (picture .entry)) (now (rows .entry)))) ⌝ }
+    ensures { λ r. ⌜ Gives (turnedBack asserted at) p r old new states numbers picture rows ⌝ }
 {
     if foreign(p) {
         return 6;
@@ -127,9 +125,8 @@ fn command_at(
     picture: &mut [u8],
     rows: &mut [u64],
 ) -> Uc8253
-    requires { ⌜ (p .config .optics .«full_swing» ≤ most) × (endsRefresh false at p ≡ true → everyState (p .config .optics .«full_swing») (now states) ≡ true) ⌝ }
-    ensures { λ r. ⌜ world r (buffers (now (old .exit)) (now (new .entry)) (now (states .exit)) (now (numbers .exit)) (now (picture .exit)) (now (rows .exit)))
-        ≡ commandByte command (arrived at (world p (buffers (now (old .entry)) (now (new .entry)) (now (states .entry)) (now (numbers .entry)) (now (picture .entry)) (now (rows .entry))))) ⌝ }
+    requires { ⌜ steps.SwingFits p × (endsRefresh false at p ≡ true → steps.StatesFit p states) ⌝ }
+    ensures { λ r. ⌜ Turns (λ w. commandByte command (arrived at w)) p r old new states numbers picture rows ⌝ }
 {
     let q = arrive(p, at, old, new, states, numbers, picture);
     command_byte(q, command, old, new, numbers, rows)
@@ -147,9 +144,8 @@ fn data_at(
     picture: &mut [u8],
     rows: &mut [u64],
 ) -> Uc8253
-    requires { ⌜ (p .config .optics .«full_swing» ≤ most) × (endsRefresh false at p ≡ true → everyState (p .config .optics .«full_swing») (now states) ≡ true) ⌝ }
-    ensures { λ r. ⌜ world r (buffers (now (old .exit)) (now (new .exit)) (now (states .exit)) (now (numbers .entry)) (now (picture .exit)) (now (rows .exit)))
-        ≡ dataByte byte (arrived at (world p (buffers (now (old .entry)) (now (new .entry)) (now (states .entry)) (now (numbers .entry)) (now (picture .entry)) (now (rows .entry))))) ⌝ }
+    requires { ⌜ steps.SwingFits p × (endsRefresh false at p ≡ true → steps.StatesFit p states) ⌝ }
+    ensures { λ r. ⌜ Turns (λ w. dataByte byte (arrived at w)) p r old new states numbers picture rows ⌝ }
 {
     let q = arrive(p, at, old, new, states, numbers, picture);
     data_byte(q, byte, old, new, rows)
@@ -166,9 +162,9 @@ fn read_at(
     picture: &mut [u8],
     rows: &mut [u64],
 ) -> ByteRead
-    requires { ⌜ (p .config .optics .«full_swing» ≤ most) × (endsRefresh false at p ≡ true → everyState (p .config .optics .«full_swing») (now states) ≡ true) ⌝ }
-    ensures { λ r. ⌜ (world (r .chip) (buffers (now (old .exit)) (now (new .entry)) (now (states .exit)) (now (numbers .entry)) (now (picture .exit)) (now (rows .exit)))
-        ≡ reading (arrived at (world p (buffers (now (old .entry)) (now (new .entry)) (now (states .entry)) (now (numbers .entry)) (now (picture .entry)) (now (rows .entry)))))) × (r .byte ≡ readOf (arrived at (world p (buffers (now (old .entry)) (now (new .entry)) (now (states .entry)) (now (numbers .entry)) (now (picture .entry)) (now (rows .entry)))) .chip)) ⌝ }
+    requires { ⌜ steps.SwingFits p × (endsRefresh false at p ≡ true → steps.StatesFit p states) ⌝ }
+    ensures { λ r. ⌜ Turns (λ w. reading (arrived at w)) p (r .chip) old new states numbers picture rows
+        × Gives (λ w. readOf (arrived at w .chip)) p (r .byte) old new states numbers picture rows ⌝ }
 {
     let q = arrive(p, at, old, new, states, numbers, picture);
     read_byte(q, rows)
@@ -186,9 +182,8 @@ fn reset_at(
     picture: &mut [u8],
     rows: &mut [u64],
 ) -> Uc8253
-    requires { ⌜ tests.turnedBack asserted at (world p (buffers (now old) (now new) (now states) (now numbers) (now picture) (now rows))) ≡ 0 ⌝ }
-    ensures { λ r. ⌜ world r (buffers (now (old .exit)) (now (new .entry)) (now (states .exit)) (now (numbers .entry)) (now (picture .exit)) (now (rows .exit)))
-        ≡ resetEdge asserted (arrived at (world p (buffers (now (old .entry)) (now (new .entry)) (now (states .entry)) (now (numbers .entry)) (now (picture .entry)) (now (rows .entry))))) ⌝ }
+    requires { ⌜ turnedBack asserted at (world p (lent old new states numbers picture rows)) ≡ 0 ⌝ }
+    ensures { λ r. ⌜ Turns (λ w. resetEdge asserted (arrived at w)) p r old new states numbers picture rows ⌝ }
 {
     let q = arrive(p, at, old, new, states, numbers, picture);
     reset_edge(q, asserted, states, numbers, picture, rows)
@@ -206,9 +201,7 @@ pub fn write_command(
     picture: &mut [u8],
     rows: &mut [u64],
 ) -> Answer
-    ensures { λ r. ⌜ world (r .chip) (buffers (now (old .exit)) (now (new .exit)) (now (states .exit)) (now (numbers .exit)) (now (picture .exit)) (now (rows .exit)))
-        ≡ commandCall at command (world p (buffers (now (old .entry)) (now (new .entry)) (now (states .entry)) (now (numbers .entry)) (now (picture .entry)) (now (rows .entry)))) ⌝ }
-    ensures { λ r. ⌜ r .refused ≡ tests.turnedBack false at (world p (buffers (now (old .entry)) (now (new .entry)) (now (states .entry)) (now (numbers .entry)) (now (picture .entry)) (now (rows .entry)))) ⌝ }
+    ensures { λ r. ⌜ Called (commandCall at command) (turnedBack false at) p (r .chip) (r .refused) old new states numbers picture rows ⌝ }
 {
     let refused = turned_back(p, at, false, old, new, states, numbers, picture, rows);
     if refused != 0 {
@@ -230,9 +223,7 @@ pub fn write_data(
     picture: &mut [u8],
     rows: &mut [u64],
 ) -> Answer
-    ensures { λ r. ⌜ world (r .chip) (buffers (now (old .exit)) (now (new .exit)) (now (states .exit)) (now (numbers .exit)) (now (picture .exit)) (now (rows .exit)))
-        ≡ dataCall at byte (world p (buffers (now (old .entry)) (now (new .entry)) (now (states .entry)) (now (numbers .entry)) (now (picture .entry)) (now (rows .entry)))) ⌝ }
-    ensures { λ r. ⌜ r .refused ≡ tests.turnedBack false at (world p (buffers (now (old .entry)) (now (new .entry)) (now (states .entry)) (now (numbers .entry)) (now (picture .entry)) (now (rows .entry)))) ⌝ }
+    ensures { λ r. ⌜ Called (dataCall at byte) (turnedBack false at) p (r .chip) (r .refused) old new states numbers picture rows ⌝ }
 {
     let refused = turned_back(p, at, false, old, new, states, numbers, picture, rows);
     if refused != 0 {
@@ -253,10 +244,8 @@ pub fn read_data(
     picture: &mut [u8],
     rows: &mut [u64],
 ) -> ReadAnswer
-    ensures { λ r. ⌜ world (r .chip) (buffers (now (old .exit)) (now (new .exit)) (now (states .exit)) (now (numbers .exit)) (now (picture .exit)) (now (rows .exit)))
-        ≡ readCall at (world p (buffers (now (old .entry)) (now (new .entry)) (now (states .entry)) (now (numbers .entry)) (now (picture .entry)) (now (rows .entry)))) ⌝ }
-    ensures { λ r. ⌜ (r .refused ≡ tests.turnedBack false at (world p (buffers (now (old .entry)) (now (new .entry)) (now (states .entry)) (now (numbers .entry)) (now (picture .entry)) (now (rows .entry)))))
-        × (r .byte ≡ readAnswer at (world p (buffers (now (old .entry)) (now (new .entry)) (now (states .entry)) (now (numbers .entry)) (now (picture .entry)) (now (rows .entry))))) ⌝ }
+    ensures { λ r. ⌜ Called (readCall at) (turnedBack false at) p (r .chip) (r .refused) old new states numbers picture rows ⌝ }
+    ensures { λ r. ⌜ Gives (readAnswer at) p (r .byte) old new states numbers picture rows ⌝ }
 {
     let refused = turned_back(p, at, false, old, new, states, numbers, picture, rows);
     if refused != 0 {
@@ -288,9 +277,8 @@ pub fn set_reset(
     picture: &mut [u8],
     rows: &mut [u64],
 ) -> Answer
-    ensures { λ r. ⌜ world (r .chip) (buffers (now (old .exit)) (now (new .exit)) (now (states .exit)) (now (numbers .exit)) (now (picture .exit)) (now (rows .exit)))
-        ≡ resetCall at asserted (world p (buffers (now (old .entry)) (now (new .entry)) (now (states .entry)) (now (numbers .entry)) (now (picture .entry)) (now (rows .entry)))) ⌝ }
-    ensures { λ r. ⌜ r .refused ≡ tests.turnedBack asserted at (world p (buffers (now (old .entry)) (now (new .entry)) (now (states .entry)) (now (numbers .entry)) (now (picture .entry)) (now (rows .entry)))) ⌝ }
+    ensures { λ r. ⌜ Called (resetCall at asserted) (turnedBack asserted at) p (r .chip) (r .refused)
+        old new states numbers picture rows ⌝ }
 {
     let refused = turned_back(p, at, asserted, old, new, states, numbers, picture, rows);
     if refused != 0 {
@@ -312,9 +300,7 @@ pub fn advance(
     picture: &mut [u8],
     rows: &mut [u64],
 ) -> Answer
-    ensures { λ r. ⌜ world (r .chip) (buffers (now (old .exit)) (now (new .exit)) (now (states .exit)) (now (numbers .exit)) (now (picture .exit)) (now (rows .exit)))
-        ≡ advanceCall at (world p (buffers (now (old .entry)) (now (new .entry)) (now (states .entry)) (now (numbers .entry)) (now (picture .entry)) (now (rows .entry)))) ⌝ }
-    ensures { λ r. ⌜ r .refused ≡ tests.turnedBack false at (world p (buffers (now (old .entry)) (now (new .entry)) (now (states .entry)) (now (numbers .entry)) (now (picture .entry)) (now (rows .entry)))) ⌝ }
+    ensures { λ r. ⌜ Called (advanceCall at) (turnedBack false at) p (r .chip) (r .refused) old new states numbers picture rows ⌝ }
 {
     let refused = turned_back(p, at, false, old, new, states, numbers, picture, rows);
     if refused != 0 {

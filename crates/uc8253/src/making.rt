@@ -1,9 +1,9 @@
 // Making a panel.
 ghost use mathlib.Core.Path.{_≡_};
 ghost use Rattle.uc8253.specs.Steps as steps;
-ghost use Rattle.controller.specs.World.{world, buffers};
 ghost use Rattle.controller.specs.TurnedBack as tests;
 ghost use Rattle.controller.specs.Calls as calls;
+ghost use Rattle.controller.specs.Lent.{before, Makes};
 ghost use Rattle.config.specs.Refusal as configs;
 use crate::Answer;
 use config::Uc8253Config;
@@ -184,7 +184,7 @@ fn making_refused(
     picture: &[u8],
     rows: &[u64],
 ) -> u8
-    ensures { λ r. ⌜ r ≡ tests.makingRefused config (buffers (now (old .entry)) (now (new .entry)) (now (states .entry)) (now (numbers .entry)) (now (picture .entry)) (now (rows .entry))) ⌝ }
+    ensures { λ r. ⌜ r ≡ tests.makingRefused config (before old new states numbers picture rows) ⌝ }
 {
     let no = number_of(config.validate());
     if no != 0 {
@@ -214,9 +214,7 @@ pub fn power_on(
     picture: &mut [u8],
     rows: &mut [u64],
 ) -> Answer
-    ensures { λ r. ⌜ world (r .chip) (buffers (now (old .exit)) (now (new .exit)) (now (states .exit)) (now (numbers .exit)) (now (picture .exit)) (now (rows .exit)))
-        ≡ calls.made config (buffers (now (old .entry)) (now (new .entry)) (now (states .entry)) (now (numbers .entry)) (now (picture .entry)) (now (rows .entry))) ⌝ }
-    ensures { λ r. ⌜ r .refused ≡ tests.makingRefused config (buffers (now (old .entry)) (now (new .entry)) (now (states .entry)) (now (numbers .entry)) (now (picture .entry)) (now (rows .entry))) ⌝ }
+    ensures { λ r. ⌜ Makes (calls.made config) (tests.makingRefused config) (r .chip) (r .refused) old new states numbers picture rows ⌝ }
 {
     let refused = making_refused(config, old, new, states, numbers, picture, rows);
     if refused != 0 {

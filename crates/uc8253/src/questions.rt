@@ -1,9 +1,8 @@
 // The questions, which change nothing, and the taking of the rows.
 ghost use mathlib.Core.Path.{_≡_};
-ghost use mathlib.Core.List.{List};
-ghost use Rattle.controller.specs.World.{Buffers, world, withRows};
 ghost use Rattle.controller.specs.TurnedBack as tests;
 ghost use Rattle.controller.specs.Calls as calls;
+ghost use Rattle.controller.specs.Lent.{TurnsRows};
 use controller::Due;
 use controller::Uc8253;
 use controller::Work;
@@ -56,7 +55,7 @@ fn lent_refused(p: Uc8253, fits: bool) -> u8
 
 // The rows since the last taking, oldest first, are the first of the lent numbers, five a row.
 pub fn take_diagnostics(p: Uc8253, rows: &[u64]) -> Taken
-    ensures { λ r. ⌜ ((b : Buffers) → world (r .chip) (withRows (now (rows .entry)) b) ≡ calls.takeCall (world p (withRows (now (rows .entry)) b)))
+    ensures { λ r. ⌜ TurnsRows calls.takeCall p (r .chip) rows
         × (r .refused ≡ calls.takingRefused p (now (rows .entry))) × (r .count ≡ calls.takenRows p (now (rows .entry))) ⌝ }
 {
     let refused = lent_refused(p, rows.len() == ROWS);

@@ -1,7 +1,7 @@
 // A read.
 ghost use mathlib.Core.Path.{_≡_};
-ghost use Rattle.controller.specs.World.{Buffers, world, withRows};
 ghost use Rattle.controller.specs.Reading as rule;
+ghost use Rattle.controller.specs.Lent.{TurnsRows};
 use crate::telling::tell;
 use crate::telling::with_current;
 use command::Kind;
@@ -21,7 +21,7 @@ pub(crate) struct ByteRead {
 
 // One byte more was read; a first read with no byte is reported.
 fn missed(p: Uc8253, a: Active, byte: Read, rows: &mut [u64]) -> Uc8253
-    ensures { λ r. ⌜ ((b : Buffers) → world r (withRows (now (rows .exit)) b) ≡ rule.missedBy byte a (world p (withRows (now (rows .entry)) b))) ⌝ }
+    ensures { λ r. ⌜ TurnsRows (rule.missedBy byte a) p r rows ⌝ }
 {
     match byte {
         Read::Byte(_) => p,
@@ -48,7 +48,7 @@ fn read_more(a: Active) -> Active
 
 // The next byte of a read command.
 fn read_under(p: Uc8253, a: Active, rows: &mut [u64]) -> ByteRead
-    ensures { λ r. ⌜ ((b : Buffers) → world (r .chip) (withRows (now (rows .exit)) b) ≡ rule.afterRead (a .kind) a (world p (withRows (now (rows .entry)) b))) × (r .byte ≡ rule.readUnder (a .kind) a p) ⌝ }
+    ensures { λ r. ⌜ TurnsRows (rule.afterRead (a .kind) a) p (r .chip) rows × (r .byte ≡ rule.readUnder (a .kind) a p) ⌝ }
 {
     let kind = a.kind;
     match kind {
@@ -74,7 +74,7 @@ fn read_under(p: Uc8253, a: Active, rows: &mut [u64]) -> ByteRead
 }
 
 pub(crate) fn read_byte(p: Uc8253, rows: &mut [u64]) -> ByteRead
-    ensures { λ r. ⌜ ((b : Buffers) → world (r .chip) (withRows (now (rows .exit)) b) ≡ rule.reading (world p (withRows (now (rows .entry)) b))) × (r .byte ≡ rule.readOf p) ⌝ }
+    ensures { λ r. ⌜ TurnsRows rule.reading p (r .chip) rows × (r .byte ≡ rule.readOf p) ⌝ }
 {
     let stage = p.stage;
     let current = stage.current;

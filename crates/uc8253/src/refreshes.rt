@@ -9,8 +9,9 @@ ghost use lib.ListN.{take};
 ghost use lib.IntN.{ℤ};
 ghost use Rattle.waveform.specs.Frames.{framesOf};
 ghost use Rattle.pixels.specs.States.{most, everyState};
-ghost use Rattle.controller.specs.World.{Buffers, world, buffers, withRows, withNumbers, withImage};
+ghost use Rattle.controller.specs.World.{withImage};
 ghost use Rattle.controller.specs.Refresh as rule;
+ghost use Rattle.controller.specs.Lent.{kept, Turns};
 use crate::telling::tell;
 use base::saturating_add;
 use controller::Note;
@@ -65,8 +66,8 @@ fn kind_by(numbers: &[u8]) -> RefreshKind
 
 // The refresh starts: each pixel gets the table of its transition.
 fn start_refresh(p: Uc8253, old: &[u8], new: &[u8], table_numbers: &mut [u8]) -> Uc8253
-    ensures { λ r. ⌜ ((states : List ℤ) (picture rows : List ℕ) → world r (buffers (now (old .entry)) (now (new .entry)) states (now («table_numbers» .exit)) picture rows)
-        ≡ rule.refreshStarted (world p (buffers (now (old .entry)) (now (new .entry)) states (now («table_numbers» .entry)) picture rows))) ⌝ }
+    ensures { λ r. ⌜ ((states : List ℤ) (picture rows : List ℕ)
+        → Turns rule.refreshStarted p r old new (kept states) «table_numbers» (kept picture) (kept rows)) ⌝ }
 {
     let waveform = waveform_now(p);
     let config = p.config;
@@ -97,8 +98,8 @@ pub(crate) fn refresh(
     table_numbers: &mut [u8],
     rows: &mut [u64],
 ) -> Uc8253
-    ensures { λ r. ⌜ ((states : List ℤ) (picture : List ℕ) → world r (buffers (now (old .entry)) (now (new .entry)) states (now («table_numbers» .exit)) picture (now (rows .exit)))
-        ≡ rule.refreshed (world p (buffers (now (old .entry)) (now (new .entry)) states (now («table_numbers» .entry)) picture (now (rows .entry))))) ⌝ }
+    ensures { λ r. ⌜ ((states : List ℤ) (picture : List ℕ)
+        → Turns rule.refreshed p r old new (kept states) «table_numbers» (kept picture) rows) ⌝ }
 {
     let regs = p.regs;
     let psr = regs.psr;
@@ -112,7 +113,8 @@ pub(crate) fn refresh(
 // Every state walks all frames of its table.
 fn drive_whole(waveform: Waveform, optics: Optics, states: &mut [i64], numbers: &[u8])
     requires { ⌜ (optics .«full_swing» ≤ most) × (everyState (optics .«full_swing») (now states) ≡ true) ⌝ }
-    ensures { λ _. ⌜ now (states .exit) ≡ rule.walked (optics .«full_swing») (framesOf waveform (optics .«positive_drives_black»)) (now (numbers .entry)) (now (states .entry)) ⌝ }
+    ensures { λ _. ⌜ now (states .exit) ≡ rule.walked (optics .«full_swing») (framesOf waveform (optics .«positive_drives_black»))
+        (now (numbers .entry)) (now (states .entry)) ⌝ }
 {
     let swing = optics.full_swing;
     let black = optics.positive_drives_black;
@@ -126,7 +128,8 @@ fn drive_whole(waveform: Waveform, optics: Optics, states: &mut [i64], numbers: 
 // Every state walks the first frames of its table.
 fn drive_first(waveform: Waveform, optics: Optics, n: u64, states: &mut [i64], numbers: &[u8])
     requires { ⌜ (optics .«full_swing» ≤ most) × (everyState (optics .«full_swing») (now states) ≡ true) ⌝ }
-    ensures { λ _. ⌜ now (states .exit) ≡ rule.walked (optics .«full_swing») (λ (k : ℕ). take n (framesOf waveform (optics .«positive_drives_black») k)) (now (numbers .entry)) (now (states .entry)) ⌝ }
+    ensures { λ _. ⌜ now (states .exit) ≡ rule.walked (optics .«full_swing»)
+        (λ (k : ℕ). take n (framesOf waveform (optics .«positive_drives_black») k)) (now (numbers .entry)) (now (states .entry)) ⌝ }
 {
     let swing = optics.full_swing;
     let black = optics.positive_drives_black;
@@ -176,9 +179,8 @@ pub(crate) fn finish_whole(
     numbers: &[u8],
     picture: &mut [u8],
 ) -> Uc8253
-    requires { ⌜ (p .config .optics .«full_swing» ≤ most) × (everyState (p .config .optics .«full_swing») (now states) ≡ true) ⌝ }
-    ensures { λ r. ⌜ ((rows : List ℕ) → world r (buffers (now (old .exit)) (now (new .entry)) (now (states .exit)) (now (numbers .entry)) (now (picture .exit)) rows)
-        ≡ rule.endedRefresh refresh (world p (buffers (now (old .entry)) (now (new .entry)) (now (states .entry)) (now (numbers .entry)) (now (picture .entry)) rows))) ⌝ }
+    requires { ⌜ steps.SwingFits p × steps.StatesFit p states ⌝ }
+    ensures { λ r. ⌜ ((rows : List ℕ) → Turns (rule.endedRefresh refresh) p r old new states numbers picture (kept rows)) ⌝ }
 {
     let config = p.config;
     let optics = config.optics;
@@ -199,9 +201,9 @@ pub(crate) fn finish_cut(
     numbers: &[u8],
     picture: &mut [u8],
 ) -> Uc8253
-    requires { ⌜ (p .config .optics .«full_swing» ≤ most) × (everyState (p .config .optics .«full_swing») (now states) ≡ true) ⌝ }
-    ensures { λ r. ⌜ ((old new rows : List ℕ) → world r (buffers old new (now (states .exit)) (now (numbers .entry)) (now (picture .exit)) rows)
-        ≡ rule.cutRefresh refresh (world p (buffers old new (now (states .entry)) (now (numbers .entry)) (now (picture .entry)) rows))) ⌝ }
+    requires { ⌜ steps.SwingFits p × steps.StatesFit p states ⌝ }
+    ensures { λ r. ⌜ ((old new rows : List ℕ)
+        → Turns (rule.cutRefresh refresh) p r (kept old) (kept new) states numbers picture (kept rows)) ⌝ }
 {
     let config = p.config;
     let optics = config.optics;

@@ -3,11 +3,10 @@ ghost use mathlib.Core.Path.{_≡_};
 ghost use Rattle.uc8253.specs.Steps as steps;
 ghost use mathlib.Core.Bool.{true};
 ghost use mathlib.Core.List.{List};
-ghost use Prim.Native.Nat.{ℕ, _≤_};
-ghost use Rattle.pixels.specs.States.{most, everyState};
-ghost use Rattle.controller.specs.World.{world, buffers};
+ghost use Prim.Native.Nat.{ℕ};
 ghost use Rattle.controller.specs.TurnedBack.{refreshRuns, cuts};
 ghost use Rattle.controller.specs.Reset as rule;
+ghost use Rattle.controller.specs.Lent.{kept, Turns};
 use crate::commands::close;
 use crate::refreshes::finish_cut;
 use crate::telling::start;
@@ -31,9 +30,8 @@ fn cut(
     picture: &mut [u8],
     rows: &mut [u64],
 ) -> Uc8253
-    requires { ⌜ (p .config .optics .«full_swing» ≤ most) × (refreshRuns (p .operation .work) ≡ true → everyState (p .config .optics .«full_swing») (now states) ≡ true) ⌝ }
-    ensures { λ r. ⌜ ((old new : List ℕ) → world r (buffers old new (now (states .exit)) (now (numbers .entry)) (now (picture .exit)) (now (rows .exit)))
-        ≡ rule.cut (world p (buffers old new (now (states .entry)) (now (numbers .entry)) (now (picture .entry)) (now (rows .entry))))) ⌝ }
+    requires { ⌜ steps.SwingFits p × (refreshRuns (p .operation .work) ≡ true → steps.StatesFit p states) ⌝ }
+    ensures { λ r. ⌜ ((old new : List ℕ) → Turns rule.cut p r (kept old) (kept new) states numbers picture rows) ⌝ }
 {
     let operation = p.operation;
     let work = operation.work;
@@ -87,9 +85,8 @@ fn fall(
     picture: &mut [u8],
     rows: &mut [u64],
 ) -> Uc8253
-    requires { ⌜ (p .config .optics .«full_swing» ≤ most) × (refreshRuns (p .operation .work) ≡ true → everyState (p .config .optics .«full_swing») (now states) ≡ true) ⌝ }
-    ensures { λ r. ⌜ ((old new : List ℕ) → world r (buffers old new (now (states .exit)) (now (numbers .entry)) (now (picture .exit)) (now (rows .exit)))
-        ≡ steps.fallen (world p (buffers old new (now (states .entry)) (now (numbers .entry)) (now (picture .entry)) (now (rows .entry))))) ⌝ }
+    requires { ⌜ steps.SwingFits p × (refreshRuns (p .operation .work) ≡ true → steps.StatesFit p states) ⌝ }
+    ensures { λ r. ⌜ ((old new : List ℕ) → Turns steps.fallen p r (kept old) (kept new) states numbers picture rows) ⌝ }
 {
     let q = cut(p, states, numbers, picture, rows);
     let r = close(q, rows);
@@ -119,9 +116,9 @@ pub(crate) fn reset_edge(
     picture: &mut [u8],
     rows: &mut [u64],
 ) -> Uc8253
-    requires { ⌜ (p .config .optics .«full_swing» ≤ most) × (refreshRuns (p .operation .work) ≡ true → cuts (p .mode .power) asserted ≡ true → everyState (p .config .optics .«full_swing») (now states) ≡ true) ⌝ }
-    ensures { λ r. ⌜ ((old new : List ℕ) → world r (buffers old new (now (states .exit)) (now (numbers .entry)) (now (picture .exit)) (now (rows .exit)))
-        ≡ rule.resetEdge asserted (world p (buffers old new (now (states .entry)) (now (numbers .entry)) (now (picture .entry)) (now (rows .entry))))) ⌝ }
+    requires { ⌜ steps.SwingFits p × (refreshRuns (p .operation .work) ≡ true
+        → cuts (p .mode .power) asserted ≡ true → steps.StatesFit p states) ⌝ }
+    ensures { λ r. ⌜ ((old new : List ℕ) → Turns (rule.resetEdge asserted) p r (kept old) (kept new) states numbers picture rows) ⌝ }
 {
     let mode = p.mode;
     let power = mode.power;

@@ -1,8 +1,9 @@
 // The small changes of the record that every call makes: a diagnostic, the command under way, an
 // operation begun or over.
 ghost use mathlib.Core.Path.{_≡_};
-ghost use Rattle.controller.specs.World.{Buffers, world, withRows, withCurrent, withOperation, tell as tellOf, told as toldOf};
+ghost use Rattle.controller.specs.World.{withCurrent, withOperation, tell as tellOf, told as toldOf};
 ghost use Rattle.controller.specs.Arrives as arrives;
+ghost use Rattle.controller.specs.Lent.{TurnsRows};
 use base::saturating_add;
 use controller::Current;
 use controller::Note;
@@ -15,7 +16,7 @@ use log::report;
 
 // A diagnostic, dated by the clock.
 pub(crate) fn tell(p: Uc8253, rows: &mut [u64], kind: DiagnosticKind) -> Uc8253
-    ensures { λ r. ⌜ ((b : Buffers) → world r (withRows (now (rows .exit)) b) ≡ tellOf kind (world p (withRows (now (rows .entry)) b))) ⌝ }
+    ensures { λ r. ⌜ TurnsRows (tellOf kind) p r rows ⌝ }
 {
     let log = p.log;
     let mut q = p;
@@ -25,7 +26,7 @@ pub(crate) fn tell(p: Uc8253, rows: &mut [u64], kind: DiagnosticKind) -> Uc8253
 
 // A diagnostic, if there is one.
 pub(crate) fn told(p: Uc8253, rows: &mut [u64], note: Note) -> Uc8253
-    ensures { λ r. ⌜ ((b : Buffers) → world r (withRows (now (rows .exit)) b) ≡ toldOf note (world p (withRows (now (rows .entry)) b))) ⌝ }
+    ensures { λ r. ⌜ TurnsRows (toldOf note) p r rows ⌝ }
 {
     match note {
         Note::Quiet => p,

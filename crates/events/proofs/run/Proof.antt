@@ -63,7 +63,7 @@ same-length-7 : tie.Need-same-length-7 Inv-loop μ-loop
 same-length-7 c = c .before .loop .inv .1 .rows-long
 
 returns : tie.Need-returns Inv-loop μ-loop
-returns c = let l = c .before .loop in let a = c .before .before .before .before .before .before .before .before .before .args in let w = world (a .p) (buffers (a .old .now) (a .new .now) (a .states .now) (a .numbers .now) (a .picture .now) (a .rows .now)) in let e : l .i ≡ eventsIn (a .events .now) = omega (arith, l .inv .2, c .loop-test .left) in (l .inv .0 .is ∙ ap (λ (n : ℕ). ranTo (a .events .now) n w) e, (l .inv .0 .gave ∙ ap (λ (n : ℕ). answersTo (a .events .now) n w (a .answers .now)) e, l .inv .0 .turned ∙ ap (λ (n : ℕ). refusedIn (a .events .now) n w) e))
+returns c = let l = c .before .loop in let a = c .before .before .before .before .before .before .before .before .before .args in let w = world (a .p) (buffers (a .old .now) (a .new .now) (a .states .now) (a .numbers .now) (a .picture .now) (a .rows .now)) in let e : l .i ≡ eventsIn (a .events .now) = omega (arith, l .inv .2, c .loop-test .left) in ((l .inv .0 .is ∙ ap (λ (n : ℕ). ranTo (a .events .now) n w) e, l .inv .0 .turned ∙ ap (λ (n : ℕ). refusedIn (a .events .now) n w) e), l .inv .0 .gave ∙ ap (λ (n : ℕ). answersTo (a .events .now) n w (a .answers .now)) e)
 
 pub run-spec : {M : Type 1} → statement M
 run-spec =

@@ -43,7 +43,7 @@ returns c =
     let a = c .before .before .before .before .before .before .before .before .before .before .before .before .power-on in
     let r = c .no-read .ensures in
     let e = c .before .before .before .before .before .before .before .before .before .before .before .before .before .before .before .before .before .before .before .config .ensures in
-    (world-given _ _ _ _ _ r (a .ensures .0 ∙ ap (λ (s : Uc8253Config). made s b) e), (refused-given _ _ _ _ r ∙ (a .ensures .1 ∙ ap (λ (s : Uc8253Config). makingRefused s b) e), answer-given _ _ _ _ r))
+    ((world-given _ _ _ _ _ r (a .ensures .0 ∙ ap (λ (s : Uc8253Config). made s b) e), refused-given _ _ _ _ r ∙ (a .ensures .1 ∙ ap (λ (s : Uc8253Config). makingRefused s b) e)), answer-given _ _ _ _ r)
 
 pub jollanqe-make-spec : {M : Type 1} → statement M
 jollanqe-make-spec =

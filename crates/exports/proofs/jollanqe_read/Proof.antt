@@ -45,7 +45,7 @@ returns c =
     let g = c .before .before .before .before .before .before .before .before .before .before .before .before .before .before .before .before .before .before .before .before .before .before .before .before .before .before .before .args in
     let b : Buffers = buffers (g .old .now) (g .new .now) (g .states .now) (g .numbers .now) (g .picture .now) (g .rows .now) in
     let a = c .before .before .before .before .before .before .before .before .before .before .before .before .before .before .read-data in
-    passed (λ (v : World). readCall (g .at) v) (λ (v : World). turnedBack false (g .at) v) (λ (v : World). readNumber (readAnswer (g .at) v)) (g .chip) _ _ _ _ _ b _ (c .before .before .before .before .before .before .before .before .before .before .before .before .before .before .before .before .before .before .before .before .before .taken .ensures) (c .give .ensures) (a .ensures .0) (a .ensures .1 .0) (c .before .read-number .ensures ∙ ap readNumber (a .ensures .1 .1))
+    passed (λ (v : World). readCall (g .at) v) (λ (v : World). turnedBack false (g .at) v) (λ (v : World). readNumber (readAnswer (g .at) v)) (g .chip) _ _ _ _ _ b _ (c .before .before .before .before .before .before .before .before .before .before .before .before .before .before .before .before .before .before .before .before .before .taken .ensures) (c .give .ensures) (a .ensures .0 .0) (a .ensures .0 .1) (c .before .read-number .ensures ∙ ap readNumber (a .ensures .1))
 
 pub jollanqe-read-spec : {M : Type 1} → statement M
 jollanqe-read-spec =

@@ -45,7 +45,7 @@ returns c =
     let r = c .give .ensures in
     let e = c .before .before .before .before .before .before .before .before .before .before .before .before .before .before .before .before .before .before .before .before .before .before .before .taken .ensures in
     let n = eventsIn (g .events .now) in
-    (world-given _ _ _ _ _ r (of-taken (λ (v : World). ranTo (g .events .now) n v) _ _ b e (a .ensures .0)), (of-taken (λ (v : World). answersTo (g .events .now) n v (g .answers .now)) _ _ b e (a .ensures .1 .0), refused-given _ _ _ _ r ∙ of-taken (λ (v : World). refusedIn (g .events .now) n v) _ _ b e (a .ensures .1 .1), answer-given _ _ _ _ r))
+    (((world-given _ _ _ _ _ r (of-taken (λ (v : World). ranTo (g .events .now) n v) _ _ b e (a .ensures .0 .0)), refused-given _ _ _ _ r ∙ of-taken (λ (v : World). refusedIn (g .events .now) n v) _ _ b e (a .ensures .0 .1)), answer-given _ _ _ _ r), of-taken (λ (v : World). answersTo (g .events .now) n v (g .answers .now)) _ _ b e (a .ensures .1))
 
 pub jollanqe-run-spec : {M : Type 1} → statement M
 jollanqe-run-spec =

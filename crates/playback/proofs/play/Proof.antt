@@ -14,7 +14,7 @@ zeros-requires : tie.Need-zeros-requires
 zeros-requires c κs = search needs
 
 returns : tie.Need-returns
-returns c = let g = c .before .before .before .before .before .before .before .before .before .before .args in let b : Buffers = buffers (g .old .now) (g .new .now) (g .states .now) (g .numbers .now) (g .picture .now) (g .rows .now) in let e = c .before .before .refused .ensures in let h = c .before .if1 .taken in (play-no (g .file .now) b _ e h _ (ap (λ (p : Uc8253). world p b) (c .zeros .ensures)), (play-no-answers (g .file .now) b _ e h (g .answers .now), play-no-number (g .file .now) b _ e h _ refl))
+returns c = let g = c .before .before .before .before .before .before .before .before .before .before .args in let b : Buffers = buffers (g .old .now) (g .new .now) (g .states .now) (g .numbers .now) (g .picture .now) (g .rows .now) in let e = c .before .before .refused .ensures in let h = c .before .if1 .taken in ((play-no (g .file .now) b _ e h _ (ap (λ (p : Uc8253). world p b) (c .zeros .ensures)), play-no-number (g .file .now) b _ e h _ refl), play-no-answers (g .file .now) b _ e h (g .answers .now))
 
 play-taken-requires : tie.Need-play-taken-requires
 play-taken-requires c κs = search needs
@@ -41,7 +41,7 @@ same-length-7 : tie.Need-same-length-7
 same-length-7 c = search needs
 
 returns-2 : tie.Need-returns-2
-returns-2 c = let g = c .before .before .before .before .before .before .before .before .before .before .before .before .before .before .before .before .before .before .before .before .before .before .before .before .before .before .before .before .before .before .args in let b : Buffers = buffers (g .old .now) (g .new .now) (g .states .now) (g .numbers .now) (g .picture .now) (g .rows .now) in let e = c .before .before .before .before .before .before .before .before .before .before .before .before .before .before .before .before .before .before .before .before .before .before .refused .ensures in let z = c .before .before .before .before .before .before .before .before .before .before .before .before .before .before .before .before .before .before .before .before .before .if1 .left in (play-yes (g .file .now) b _ e z _ (c .before .before .before .before .before .before .before .before .before .before .before .before .before .play-taken .ensures .0), (play-yes-answers (g .file .now) b _ e z (g .answers .now) _ (c .before .before .before .before .before .before .before .before .before .before .before .before .before .play-taken .ensures .1 .0), play-yes-number (g .file .now) b _ e z _ (c .before .before .before .before .before .before .before .before .before .before .before .before .before .play-taken .ensures .1 .1)))
+returns-2 c = let g = c .before .before .before .before .before .before .before .before .before .before .before .before .before .before .before .before .before .before .before .before .before .before .before .before .before .before .before .before .before .before .args in let b : Buffers = buffers (g .old .now) (g .new .now) (g .states .now) (g .numbers .now) (g .picture .now) (g .rows .now) in let e = c .before .before .before .before .before .before .before .before .before .before .before .before .before .before .before .before .before .before .before .before .before .before .refused .ensures in let z = c .before .before .before .before .before .before .before .before .before .before .before .before .before .before .before .before .before .before .before .before .before .if1 .left in ((play-yes (g .file .now) b _ e z _ (c .before .before .before .before .before .before .before .before .before .before .before .before .before .play-taken .ensures .0 .0), play-yes-number (g .file .now) b _ e z _ (c .before .before .before .before .before .before .before .before .before .before .before .before .before .play-taken .ensures .0 .1)), play-yes-answers (g .file .now) b _ e z (g .answers .now) _ (c .before .before .before .before .before .before .before .before .before .before .before .before .before .play-taken .ensures .1))
 
 pub play-spec : {M : Type 1} → statement M
 play-spec =

@@ -35,7 +35,7 @@ same-length-6 : tie.Need-same-length-6
 same-length-6 c = search needs
 
 returns : tie.Need-returns
-returns c = let g = c .before .before .before .before .before .before .before .before .before .before .before .before .before .before .before .before .before .before .before .before .before .before .before .before .before .before .before .before .before .args in let b : Buffers = buffers (g .old .now) (g .new .now) (g .states .now) (g .numbers .now) (g .picture .now) (g .rows .now) in let e = c .before .before .before .before .before .before .before .before .before .before .before .before .before .before .before .before .before .before .before .before .before .config .ensures in let r = c .before .before .before .before .before .before .before .before .before .before .before .before .before .before .power-on .ensures .1 in (making-no (g .file .now) b _ _ e r (c .if1 .taken) _ (c .before .before .before .before .before .before .before .before .before .before .before .before .before .before .power-on .ensures .0), (answers-no (g .file .now) b _ _ e r (c .if1 .taken) (g .answers .now), number-is (g .file .now) b _ _ e r))
+returns c = let g = c .before .before .before .before .before .before .before .before .before .before .before .before .before .before .before .before .before .before .before .before .before .before .before .before .before .before .before .before .before .args in let b : Buffers = buffers (g .old .now) (g .new .now) (g .states .now) (g .numbers .now) (g .picture .now) (g .rows .now) in let e = c .before .before .before .before .before .before .before .before .before .before .before .before .before .before .before .before .before .before .before .before .before .config .ensures in let r = c .before .before .before .before .before .before .before .before .before .before .before .before .before .before .power-on .ensures .1 in ((making-no (g .file .now) b _ _ e r (c .if1 .taken) _ (c .before .before .before .before .before .before .before .before .before .before .before .before .before .before .power-on .ensures .0), number-is (g .file .now) b _ _ e r), answers-no (g .file .now) b _ _ e r (c .if1 .taken) (g .answers .now))
 
 events-end-requires : tie.Need-events-end-requires
 events-end-requires c κs = search needs
@@ -68,7 +68,7 @@ same-length-13 : tie.Need-same-length-13
 same-length-13 c = c .before .before .before .before .before .before .before .before .before .before .before .before .before .before .run .kept .1 .1 .1 .1 .1 .1 .1 .1 .0 ∙ c .before .before .before .before .before .before .before .before .before .before .before .before .before .before .before .before .before .before .before .before .before .before .before .before .before .before .before .before .before .before .before .before .before .before .before .before .before .before .power-on .kept .1 .1 .1 .1 .1 .1 .0
 
 returns-2 : tie.Need-returns-2
-returns-2 c = let g = c .before .before .before .before .before .before .before .before .before .before .before .before .before .before .before .before .before .before .before .before .before .before .before .before .before .before .before .before .before .before .before .before .before .before .before .before .before .before .before .before .before .before .before .before .before .before .before .before .before .before .before .before .before .args in let b : Buffers = buffers (g .old .now) (g .new .now) (g .states .now) (g .numbers .now) (g .picture .now) (g .rows .now) in let e = c .before .before .before .before .before .before .before .before .before .before .before .before .before .before .before .before .before .before .before .before .before .before .before .before .before .before .before .before .before .before .before .before .before .before .before .before .before .before .before .before .before .before .before .before .before .config .ensures in let r = c .before .before .before .before .before .before .before .before .before .before .before .before .before .before .before .before .before .before .before .before .before .before .before .before .before .before .before .before .before .before .before .before .before .before .before .before .before .before .power-on .ensures .1 in let q = c .before .before .before .before .before .before .before .before .before .before .before .before .before .before .before .before .before .before .before .before .before .before .before .before .before .before .before .before .before .before .before .before .before .before .before .before .before .before .power-on .ensures .0 in let z = c .before .before .before .before .before .before .before .before .before .before .before .before .before .before .before .before .before .before .before .before .before .before .before .before .if1 .left in let t = ap (λ (n : ℕ). take n (g .file .now)) (c .before .before .before .before .before .before .before .before .before .before .before .before .before .before .before .before .before .before .before .before .before .before .before .events-end .ensures) in (making-yes (g .file .now) b _ _ e r z _ q _ t _ (c .before .before .before .before .before .before .before .before .before .before .before .before .before .before .run .ensures .0), (answers-yes (g .file .now) b _ _ e r z _ q _ t (g .answers .now) _ (c .before .before .before .before .before .before .before .before .before .before .before .before .before .before .run .ensures .1 .0), number-yes (g .file .now) b _ _ e r z _ q _ t))
+returns-2 c = let g = c .before .before .before .before .before .before .before .before .before .before .before .before .before .before .before .before .before .before .before .before .before .before .before .before .before .before .before .before .before .before .before .before .before .before .before .before .before .before .before .before .before .before .before .before .before .before .before .before .before .before .before .before .before .args in let b : Buffers = buffers (g .old .now) (g .new .now) (g .states .now) (g .numbers .now) (g .picture .now) (g .rows .now) in let e = c .before .before .before .before .before .before .before .before .before .before .before .before .before .before .before .before .before .before .before .before .before .before .before .before .before .before .before .before .before .before .before .before .before .before .before .before .before .before .before .before .before .before .before .before .before .config .ensures in let r = c .before .before .before .before .before .before .before .before .before .before .before .before .before .before .before .before .before .before .before .before .before .before .before .before .before .before .before .before .before .before .before .before .before .before .before .before .before .before .power-on .ensures .1 in let q = c .before .before .before .before .before .before .before .before .before .before .before .before .before .before .before .before .before .before .before .before .before .before .before .before .before .before .before .before .before .before .before .before .before .before .before .before .before .before .power-on .ensures .0 in let z = c .before .before .before .before .before .before .before .before .before .before .before .before .before .before .before .before .before .before .before .before .before .before .before .before .if1 .left in let t = ap (λ (n : ℕ). take n (g .file .now)) (c .before .before .before .before .before .before .before .before .before .before .before .before .before .before .before .before .before .before .before .before .before .before .before .events-end .ensures) in ((making-yes (g .file .now) b _ _ e r z _ q _ t _ (c .before .before .before .before .before .before .before .before .before .before .before .before .before .before .run .ensures .0 .0), number-yes (g .file .now) b _ _ e r z _ q _ t), answers-yes (g .file .now) b _ _ e r z _ q _ t (g .answers .now) _ (c .before .before .before .before .before .before .before .before .before .before .before .before .before .before .run .ensures .1))
 
 pub play-taken-spec : {M : Type 1} → statement M
 play-taken-spec =

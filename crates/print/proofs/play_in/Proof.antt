@@ -33,7 +33,7 @@ same-length-7 : tie.Need-same-length-7
 same-length-7 c = search needs
 
 returns : tie.Need-returns
-returns c = (ap (λ (w : World). w .lent .old) (c .before .before .before .before .before .before .before .before .before .before .before .before .before .before .before .before .before .play .ensures .0), ap (λ (w : World). w .lent .new) (c .before .before .before .before .before .before .before .before .before .before .before .before .before .before .before .before .before .play .ensures .0))
+returns c = (ap (λ (w : World). w .lent .old) (c .before .before .before .before .before .before .before .before .before .before .before .before .before .before .before .before .before .play .ensures .0 .0), ap (λ (w : World). w .lent .new) (c .before .before .before .before .before .before .before .before .before .before .before .before .before .before .before .before .before .play .ensures .0 .0))
 
 pub play-in-spec : {M : Type 1} → statement M
 play-in-spec =

@@ -31,7 +31,7 @@ same-length-6 : tie.Need-same-length-6
 same-length-6 c = search needs
 
 returns : tie.Need-returns
-returns c = let g = c .before .before .before .before .before .before .before .before .before .before .before .before .before .args in let w : World = world (g .p) (buffers (g .old .now) (g .new .now) (g .states .now) (g .numbers .now) (g .picture .now) (g .rows .now)) in let e = c .before .turned-back .ensures in (called-no false (g .at) w _ e reading (c .if1 .taken), (e, read-no (g .at) w _ e (c .if1 .taken)))
+returns c = let g = c .before .before .before .before .before .before .before .before .before .before .before .before .before .args in let w : World = world (g .p) (buffers (g .old .now) (g .new .now) (g .states .now) (g .numbers .now) (g .picture .now) (g .rows .now)) in let e = c .before .turned-back .ensures in ((called-no false (g .at) w _ e reading (c .if1 .taken), e), read-no (g .at) w _ e (c .if1 .taken))
 
 read-at-requires : tie.Need-read-at-requires
 read-at-requires c κs = let g = c .before .before .before .before .before .before .before .before .before .before .before .before .before .before .before .before .before .before .before .args in let w : World = world (g .p) (buffers (g .old .now) (g .new .now) (g .states .now) (g .numbers .now) (g .picture .now) (g .rows .now)) in ready-arrive false (g .at) w (sym (c .before .before .before .before .before .before .before .turned-back .ensures) ∙ c .before .before .before .before .before .before .if1 .left)
@@ -55,7 +55,7 @@ same-length-12 : tie.Need-same-length-12
 same-length-12 c = search needs
 
 returns-2 : tie.Need-returns-2
-returns-2 c = let g = c .before .before .before .before .before .before .before .before .before .before .before .before .before .before .before .before .before .before .before .before .before .before .before .before .before .before .before .before .args in let w : World = world (g .p) (buffers (g .old .now) (g .new .now) (g .states .now) (g .numbers .now) (g .picture .now) (g .rows .now)) in let e = c .before .before .before .before .before .before .before .before .before .before .before .before .before .before .before .before .turned-back .ensures in let z = c .before .before .before .before .before .before .before .before .before .before .before .before .before .before .before .if1 .left in (called-yes false (g .at) w _ e reading _ z (c .before .before .before .before .before .before .before .before .read-at .ensures .0), (sym z ∙ e, read-yes (g .at) w _ e _ z (c .before .before .before .before .before .before .before .before .read-at .ensures .1)))
+returns-2 c = let g = c .before .before .before .before .before .before .before .before .before .before .before .before .before .before .before .before .before .before .before .before .before .before .before .before .before .before .before .before .args in let w : World = world (g .p) (buffers (g .old .now) (g .new .now) (g .states .now) (g .numbers .now) (g .picture .now) (g .rows .now)) in let e = c .before .before .before .before .before .before .before .before .before .before .before .before .before .before .before .before .turned-back .ensures in let z = c .before .before .before .before .before .before .before .before .before .before .before .before .before .before .before .if1 .left in ((called-yes false (g .at) w _ e reading _ z (c .before .before .before .before .before .before .before .before .read-at .ensures .0), sym z ∙ e), read-yes (g .at) w _ e _ z (c .before .before .before .before .before .before .before .before .read-at .ensures .1))
 
 pub read-data-spec : {M : Type 1} → statement M
 read-data-spec =

@@ -98,7 +98,7 @@ same-length-18 : tie.Need-same-length-18
 same-length-18 c = search needs
 
 returns-3 : tie.Need-returns-3
-returns-3 c = let a = c .before .before .before .before .before .before .before .before .before .before .before .before .before .before .before .before .before .before .before .before .before .before .before .before .before .args in let w = world (a .p) (buffers (a .old .now) (a .new .now) (a .states .now) (a .numbers .now) (a .picture .now) (a .rows .now)) in let g = c .before .before .before .before .before .before .before .before .before .before .before .before .read-data in stepped (a .event) w _ _ _ (c .with-byte .ensures) (does-read (a .event) w _ _ _ (c .before .before .before .before .before .before .before .before .before .before .before .before .before .before .before .before .before .before .before .match .keys3) (g .ensures .0) (g .ensures .1 .0) (ap readNumber (g .ensures .1 .1)))
+returns-3 c = let a = c .before .before .before .before .before .before .before .before .before .before .before .before .before .before .before .before .before .before .before .before .before .before .before .before .before .args in let w = world (a .p) (buffers (a .old .now) (a .new .now) (a .states .now) (a .numbers .now) (a .picture .now) (a .rows .now)) in let g = c .before .before .before .before .before .before .before .before .before .before .before .before .read-data in stepped (a .event) w _ _ _ (c .with-byte .ensures) (does-read (a .event) w _ _ _ (c .before .before .before .before .before .before .before .before .before .before .before .before .before .before .before .before .before .before .before .match .keys3) (g .ensures .0 .0) (g .ensures .0 .1) (ap readNumber (g .ensures .1)))
 
 same-length-19 : tie.Need-same-length-19
 same-length-19 c = search needs

@@ -1,0 +1,65 @@
+-- What a contract says of a call over the six lent slices. Each name is an `abbrev`, so a contract that cites it says what it stands for.
+use mathlib.Core.Path.{_≡_}
+use mathlib.Core.List.{List}
+use Prim.Native.Nat.{ℕ}
+use lib.IntN.{ℤ}
+use denote.Ref.{RefT, now}
+use denote.Triple.Both.{Both}
+use Rattle.controller.specs.declared.Uc8253.{Uc8253}
+use Rattle.controller.specs.World.{World, Buffers, buffers, world, withRows}
+
+-- a slice in a requires; in an ensures, where it has an entry and an exit
+abbrev pub Slice : Type 0 → Type 0
+Slice X = RefT (List X)
+
+abbrev pub Lent : Type 0 → Type 0
+Lent X = Both (Slice X) (Slice X)
+
+-- a list that the function is not lent, and so leaves as it is; nothing reads its pointer and its name
+abbrev pub kept : {X : Type 0} → List X → Lent X
+kept l =
+    let x : Slice _ = record { ptr = (0, 0); name = 0; now = l } in
+    record { entry = x; exit = x }
+
+-- the old plane, the new, the states, the table numbers, the picture and the rows
+abbrev pub Over {ℓ} : Type ℓ → Type ℓ
+Over A = Lent ℕ → Lent ℕ → Lent ℤ → Lent ℕ → Lent ℕ → Lent ℕ → A
+
+-- all that is lent: in a requires; in an ensures, before the call and after it
+abbrev pub lent : Slice ℕ → Slice ℕ → Slice ℤ → Slice ℕ → Slice ℕ → Slice ℕ → Buffers
+lent old new states numbers picture rows = buffers (now old) (now new) (now states) (now numbers) (now picture) (now rows)
+
+abbrev pub before : Over Buffers
+before old new states numbers picture rows = lent (old .entry) (new .entry) (states .entry) (numbers .entry) (picture .entry) (rows .entry)
+
+abbrev pub after : Over Buffers
+after old new states numbers picture rows = lent (old .exit) (new .exit) (states .exit) (numbers .exit) (picture .exit) (rows .exit)
+
+-- the record p becomes q, and what is lent what is left, as f has it
+abbrev pub Turns : (World → World) → Uc8253 → Uc8253 → Over (Type 0)
+Turns f p q old new states numbers picture rows =
+    world q (after old new states numbers picture rows) ≡ f (world p (before old new states numbers picture rows))
+
+-- x is what g says of the record p and what is lent
+abbrev pub Gives : {A : Type 0} → (World → A) → Uc8253 → A → Over (Type 0)
+Gives g p x old new states numbers picture rows = x ≡ g (world p (before old new states numbers picture rows))
+
+-- a call: what it does to the record and what is lent, and n, the number of its refusal
+abbrev pub Called : (World → World) → (World → ℕ) → Uc8253 → Uc8253 → ℕ → Over (Type 0)
+Called f number p q n old new states numbers picture rows =
+    Turns f p q old new states numbers picture rows × Gives number p n old new states numbers picture rows
+
+-- the same of a making, which is given no record
+abbrev pub Makes : (Buffers → World) → (Buffers → ℕ) → Uc8253 → ℕ → Over (Type 0)
+Makes f number q n old new states numbers picture rows =
+    (world q (after old new states numbers picture rows) ≡ f (before old new states numbers picture rows))
+    × (n ≡ number (before old new states numbers picture rows))
+
+-- the rows alone, or one plane and the rows, whatever else is lent
+abbrev pub TurnsRows : (World → World) → Uc8253 → Uc8253 → Lent ℕ → Type 0
+TurnsRows f p q rows = (b : Buffers) → world q (withRows (now (rows .exit)) b) ≡ f (world p (withRows (now (rows .entry)) b))
+
+abbrev pub TurnsPlane : (List ℕ → Buffers → Buffers) → (World → World) → Uc8253 → Uc8253 → Lent ℕ → Lent ℕ → Type 0
+TurnsPlane put f p q plane rows =
+    (b : Buffers)
+    → world q (withRows (now (rows .exit)) (put (now (plane .exit)) b)) ≡ f (world p (withRows (now (rows .entry)) (put (now (plane .entry)) b)))
