@@ -7,14 +7,10 @@ use native.Mathlib.Numerals.{add-one}
 use native.Mathlib.Omega.{arith}
 use lib.ListN.{length, length-append}
 use Rattle.base.specs.InTurn.{inTurn}
+use Rattle.base.specs.Listed.{sumTo}
 
 pub in-turn-more : {A : Type 0} (n : ℕ) (f : ℕ → List A) → inTurn n f ++ f n ≡ inTurn (n + 1) f
 in-turn-more n f = rw (add-one n)
-
--- f 0 and f 1 and so on to f (n - 1) together
-abbrev pub sumTo : ℕ → (ℕ → ℕ) → ℕ
-sumTo zero f = 0
-sumTo (suc n) f = sumTo n f + f n
 
 pub length-in-turn : {A : Type 0} (n : ℕ) (f : ℕ → List A) → length (inTurn n f) ≡ sumTo n (λ k. length (f k))
 length-in-turn zero f = refl

@@ -3,6 +3,8 @@ pub mod Product
 pub mod InTurn
 pub mod Cases
 pub mod Lists
+pub mod Listed
 pub mod Turns
 pub mod Below
 pub mod Sorting
+pub mod RefusalWords

@@ -1,4 +1,4 @@
--- Reading past a list's end; the length and the elements of a list that is mapped.
+-- Reading past a list's end; the length of a list that is mapped.
 use mathlib.Core.Path.{_≡_, refl, ap}
 use mathlib.Core.List.{List, [], _∷_, map}
 use Prim.Native.Nat.{ℕ, zero, suc, _≤_}
@@ -16,12 +16,3 @@ pub length-mapped : {A B : Type 0} (f : A → B) (l : List A) (n : ℕ) → leng
 length-mapped f [] n e = e
 length-mapped f (x ∷ l) zero e = absurd (omega arith)
 length-mapped f (x ∷ l) (suc n) e = ap suc (length-mapped f l n (omega arith))
-
--- g 0 and g 1 and so on to g (n - 1)
-abbrev pub listed : {A : Type 0} → ℕ → (ℕ → A) → List A
-listed zero g = []
-listed (suc n) g = g 0 ∷ listed n (λ k. g (suc k))
-
-pub map-listed : {A B : Type 0} (f : A → B) (l : List A) (d : A) → map f l ≡ listed (length l) (λ k. f (getD l k d))
-map-listed f [] d = refl
-map-listed f (x ∷ l) d = ap (λ m. f x ∷ m) (map-listed f l d)

@@ -1,4 +1,5 @@
--- A `match` on a number, held against a definition: what is computed at each number of an arm, or of a range less the keys tested before, holds of the number matched.
+-- A `match` on a number, held against a definition: what is computed at each number of an arm,
+-- or of a range less the keys tested before, holds of the number matched.
 use mathlib.Core.Path.{_≡_, refl, sym, subst}
 use mathlib.Core.Bool.{Bool, true, false}
 use mathlib.Core.List.{List, [], _∷_, _++_}
@@ -78,5 +79,6 @@ computed f keys lo (suc n) t =
     let p = here (oneOf keys lo) (f lo) (eachBut f keys (suc lo) n) t in
     (p .0, computed f keys (suc lo) n (p .1))
 
-pub test-in-range : (f : ℕ → Bool) (keys : List ℕ) (lo n x : ℕ) → T (eachBut f keys lo n) → oneOf keys x ≡ false → lo ≤ x → x < lo + n → T (f x)
+pub test-in-range : (f : ℕ → Bool) (keys : List ℕ) (lo n x : ℕ) → T (eachBut f keys lo n) → oneOf keys x ≡ false → lo ≤ x → x < lo + n
+    → T (f x)
 test-in-range f keys lo n x t = in-range (λ k. T (f k)) keys lo n x (computed f keys lo n t)

@@ -17,6 +17,7 @@ pub turns-same : {A : Type 0} (n : ℕ) (f g : ℕ → A → A) (a : A) → ((k 
 turns-same zero f g a e = refl
 turns-same (suc n) f g a e = ap (f n) (turns-same n f g a (λ k b h. e k b (omega arith))) ∙ e n (turns n g a) (omega arith)
 
-pub turns-keep : {A : Type 0} (P : A → Type 0) (n : ℕ) (f : ℕ → A → A) (a : A) → ((k : ℕ) (b : A) → k < n → P b → P (f k b)) → P a → P (turns n f a)
+pub turns-keep : {A : Type 0} (P : A → Type 0) (n : ℕ) (f : ℕ → A → A) (a : A) → ((k : ℕ) (b : A) → k < n → P b → P (f k b)) → P a
+    → P (turns n f a)
 turns-keep P zero f a s h = h
 turns-keep P (suc n) f a s h = s n (turns n f a) (omega arith) (turns-keep P n f a (λ k b l. s k b (omega arith)) h)

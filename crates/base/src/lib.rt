@@ -1,5 +1,8 @@
-// Arithmetic that the crates share: 64-bit numbers whose sums, differences and products are held
-// to 0 ..= 2^64 - 1, under the Rust's names.
+// What the crates share: the refusals, and arithmetic on 64-bit numbers whose sums, differences and
+// products are held to 0 ..= 2^64 - 1, under the Rust's names.
+mod refusals;
+
+pub use refusals::Refusal;
 ghost use mathlib.Core.Path.{_≡_};
 ghost use Prim.Native.Nat.{_+_, _-_, _*_, min, max};
 ghost use Rattle.base.specs.Word.{top};

@@ -1,5 +1,6 @@
--- A configuration is accepted exactly if its panel has 1 to 800 sources and 1 to 600 gates, its full swing is 1 to 2^63 - 1 and no period is 0; and a refusal's number tells the answer.
-use mathlib.Core.Path.{_≡_, refl, sym, ap, _∙_}
+-- A configuration is accepted exactly if its panel has 1 to 800 sources and 1 to 600 gates,
+-- its full swing is 1 to 2^63 - 1 and no period is 0.
+use mathlib.Core.Path.{_≡_, refl, sym, _∙_}
 use mathlib.Core.Bool.{Bool, true, false, _||_, or-true, true≢false}
 use mathlib.Core.List.{List}
 use Prim.Native.Nat.{ℕ, zero, suc, _-_, _^_, _≤_, _<_}
@@ -10,9 +11,7 @@ use lib.Dec.{eqb, ltb}
 use borrow.Author.Tests.{eqb-false, ltb-false, eq-eqb, ne-eqb, le-ltb}
 use Rattle.base.specs.Pick.{pick}
 use Rattle.config.specs.declared.Uc8253Config.{Uc8253Config}
-use Rattle.config.specs.declared.Validity.{Validity}
-use Rattle.config.specs.declared.Validity.the-variants.{Valid, EmptyPanel, PanelTooLarge, FullSwing, FramePeriod}
-use Rattle.config.specs.Refusal.{emptyPanel, oversizedPanel, swingRefused, someZero, periodRefused, refusal, number, Accepted}
+use Rattle.config.specs.Refusal.{emptyPanel, oversizedPanel, swingRefused, someZero, periodRefused, refusal, Accepted}
 
 -- ---- a number that is not 0
 nonzero : {x : ℕ} → eqb x 0 ≡ false → 1 ≤ x
@@ -47,7 +46,8 @@ neither : (a b : Bool) → (a || b) ≡ false → (a ≡ false) × (b ≡ false)
 neither true b e = absurd (true≢false e)
 neither false b e = (refl, e)
 
-none-met : (a b d e : Bool) → _≡_ {A = ℕ} (pick a 1 (pick b 2 (pick d 3 (pick e 4 0)))) 0 → (a ≡ false) × (b ≡ false) × (d ≡ false) × (e ≡ false)
+none-met : (a b d e : Bool) → _≡_ {A = ℕ} (pick a 1 (pick b 2 (pick d 3 (pick e 4 0)))) 0
+    → (a ≡ false) × (b ≡ false) × (d ≡ false) × (e ≡ false)
 none-met true b d e q = absurd (omega arith)
 none-met false true d e q = absurd (omega arith)
 none-met false false true e q = absurd (omega arith)
@@ -73,18 +73,13 @@ accepted c q =
 
 pub accepts : (c : Uc8253Config) → Accepted c → refusal c ≡ 0
 unfolding refusal emptyPanel oversizedPanel swingRefused periodRefused
-accepts c a = simp (positive (a .sources-least), positive (a .gates-least), positive (a .swing-least), le-ltb _ _ (a .sources-most), le-ltb _ _ (a .gates-most), le-ltb _ _ (a .swing-most), all-seen (c .timing .«frame_period») 32 (a .period-least))
-
--- ---- the number tells the answer
-abbrev answer : ℕ → Validity
-answer n = pick (eqb n 1) EmptyPanel (pick (eqb n 2) PanelTooLarge (pick (eqb n 3) FullSwing (pick (eqb n 4) FramePeriod Valid)))
-
-answer-number : (v : Validity) → answer (number v) ≡ v
-answer-number Valid = refl
-answer-number EmptyPanel = refl
-answer-number PanelTooLarge = refl
-answer-number FullSwing = refl
-answer-number FramePeriod = refl
-
-pub number-one-to-one : (v w : Validity) → number v ≡ number w → v ≡ w
-number-one-to-one v w e = sym (answer-number v) ∙ ap answer e ∙ answer-number w
+accepts c a =
+    simp (
+      positive (a .sources-least),
+      positive (a .gates-least),
+      positive (a .swing-least),
+      le-ltb _ _ (a .sources-most),
+      le-ltb _ _ (a .gates-most),
+      le-ltb _ _ (a .swing-most),
+      all-seen (c .timing .«frame_period») 32 (a .period-least),
+    )

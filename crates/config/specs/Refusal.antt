@@ -6,8 +6,6 @@ use lib.ListN.{getD}
 use lib.Dec.{eqb, ltb}
 use Rattle.base.specs.Pick.{pick}
 use Rattle.config.specs.declared.Uc8253Config.{Uc8253Config}
-use Rattle.config.specs.declared.Validity.{Validity}
-use Rattle.config.specs.declared.Validity.the-variants.{Valid, EmptyPanel, PanelTooLarge, FullSwing, FramePeriod}
 
 -- 1, empty panel: sources or gates is 0
 unfoldable pub emptyPanel : Uc8253Config → Bool
@@ -33,14 +31,6 @@ periodRefused c = someZero (c .timing .«frame_period») 32
 -- the number of the first that is met, 0 if none is
 unfoldable pub refusal : Uc8253Config → ℕ
 refusal c = pick (emptyPanel c) 1 (pick (oversizedPanel c) 2 (pick (swingRefused c) 3 (pick (periodRefused c) 4 0)))
-
--- the number of each answer, 0 for Valid; no two answers share one (RefusalLaws, `number-one-to-one`)
-abbrev pub number : Validity → ℕ
-number Valid = 0
-number EmptyPanel = 1
-number PanelTooLarge = 2
-number FullSwing = 3
-number FramePeriod = 4
 
 -- what a configuration has that meets none of the four
 pub record Accepted (c : Uc8253Config) : Type 0 where

@@ -1,9 +1,10 @@
 -- The X3's own values, by config.rs: its glass, its times, and the frame periods of DS53's table.
 use mathlib.Core.Bool.{true, false}
-use mathlib.Core.List.{List, [], _∷_, _++_}
-use Prim.Native.Nat.{ℕ, zero, suc, _+_, _*_, _/_}
+use mathlib.Core.List.{List}
+use Prim.Native.Nat.{ℕ, _+_, _*_, _/_}
 use lib.Dec.{eqb}
 use Rattle.base.specs.Pick.{pick}
+use Rattle.base.specs.Listed.{listed}
 use Rattle.glass.specs.Optics as optics
 use Rattle.config.specs.declared.Uc8253Geometry.{Uc8253Geometry}
 use Rattle.config.specs.declared.Uc8253Timing.{Uc8253Timing}
@@ -21,8 +22,7 @@ ds53 code = 1_000_000_000 / hertz code
 
 -- the periods of the codes below n
 abbrev pub periodsTo : ℕ → List ℕ
-periodsTo zero = []
-periodsTo (suc n) = periodsTo n ++ ds53 n ∷ []
+periodsTo n = listed n ds53
 
 -- 792 sources by 528 gates, G0 at the bottom of the image
 abbrev pub x3Panel : Uc8253Geometry

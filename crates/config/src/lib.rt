@@ -2,7 +2,9 @@
 // values, and what turns a configuration back.
 ghost use mathlib.Core.Path.{_≡_};
 ghost use Rattle.config.specs.X3.{ds53, periodsTo, x3Panel, x3Timing, x3, x3Uc8279d};
-ghost use Rattle.config.specs.Refusal.{emptyPanel, oversizedPanel, swingRefused, periodRefused, someZero, refusal, number};
+ghost use Rattle.base.specs.RefusalNumbers.{refusalNumber};
+ghost use Rattle.config.specs.Refusal.{emptyPanel, oversizedPanel, swingRefused, periodRefused, someZero, refusal};
+use base::Refusal;
 use glass::Optics;
 
 // Sources of the controller: the width of each RAM plane, in pixels (DS79: 800 × 600).
@@ -133,15 +135,6 @@ pub struct Uc8253Config {
     pub ambient_celsius: u8,
 }
 
-// Whether a configuration is taken, or why it is turned back.
-pub enum Validity {
-    Valid,
-    EmptyPanel,
-    PanelTooLarge,
-    FullSwing,
-    FramePeriod,
-}
-
 // Whether one of the periods is 0.
 fn some_zero(periods: [u64; FRAME_RATE_CODES]) -> bool
     ensures { λ r. ⌜ r ≡ someZero periods 32 ⌝ }
@@ -219,21 +212,21 @@ impl Uc8253Config {
     }
 
     // The first of document 01's refusals 1 to 4 that the configuration meets, if it meets one.
-    pub fn validate(self) -> Validity
-        ensures { λ r. ⌜ number r ≡ refusal self ⌝ }
+    pub fn validate(self) -> Refusal
+        ensures { λ r. ⌜ refusalNumber r ≡ refusal self ⌝ }
     {
         if self.empty_panel() {
-            return Validity::EmptyPanel;
+            return Refusal::EmptyPanel;
         }
         if self.oversized_panel() {
-            return Validity::PanelTooLarge;
+            return Refusal::OversizedPanel;
         }
         if self.swing_refused() {
-            return Validity::FullSwing;
+            return Refusal::Swing;
         }
         if self.period_refused() {
-            return Validity::FramePeriod;
+            return Refusal::FramePeriod;
         }
-        Validity::Valid
+        Refusal::Nothing
     }
 }

@@ -1,12 +1,11 @@
 -- `config::ds53_frame_periods` meets its contract. The loop's invariant: the first numbers are the periods of the codes passed.
-use mathlib.Core.Path.{_≡_, refl, sym, ap, _∙_}
+use mathlib.Core.Path.{_≡_, refl}
 use Prim.Native.Nat.{_-_, _≤_}
 use native.Mathlib.Omega.{arith}
-use native.Mathlib.Numerals.{add-one}
 use borrow.Author.Needs.{needs}
 use lib.ListN.{length, take, length-set}
-use lib.Seq.{take-suc-set, take-all}
-use Rattle.config.specs.X3.{periodsTo}
+use Rattle.base.proofs.Listed.{filled-more, filled}
+use Rattle.config.specs.X3.{ds53, periodsTo}
 use Rattle.config.proofs.ds53_frame_periods.Statement.{statement}
 use Rattle.config.proofs.ds53_frame_periods.Tie as tie
 
@@ -39,14 +38,16 @@ loop-less c = omega arith
 
 loop-again : tie.Need-loop-again Inv-loop μ-loop
 loop-again c =
-    let l = c .before .before .loop in
-    (rw (add-one (l .code)) (take-suc-set (l .periods) (l .code) _ (omega arith) ∙ rw (l .inv .0, c .ds53-frame-period .ensures)), omega arith, simp length-set (l .inv .2))
+    let l = c .before .before .loop in (
+      filled-more (l .periods) (l .code) ds53 (l .inv .0) _ (c .ds53-frame-period .ensures) (omega arith),
+      omega arith,
+      simp length-set (l .inv .2),
+    )
 
 returns : tie.Need-returns Inv-loop μ-loop
 returns c =
     let l = c .before .loop in
-    let e : l .code ≡ 32 = omega arith in
-    sym (take-all (l .code) (l .periods) (omega arith)) ∙ l .inv .0 ∙ ap periodsTo e
+    filled (l .periods) (l .code) ds53 (l .inv .0) 32 (l .inv .2) (omega arith)
 
 pub ds53-frame-periods-spec : {M : Type 1} → statement M
 ds53-frame-periods-spec =
