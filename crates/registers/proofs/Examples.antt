@@ -8,7 +8,8 @@ use Rattle.registers.specs.Written.{activeOf}
 
 module _ (v : Variant) where
   -- 65 with 03 20 00 00: column 799 only
-  pub last-column-only : activeOf (bytesFrom 0x65 0 (0x03 ∷ 0x20 ∷ 0x00 ∷ 0x00 ∷ []) (resetOf v)) ≡ record { x0 = 799; y0 = 0; x1 = 799; y1 = 599 }
+  pub last-column-only : activeOf (bytesFrom 0x65 0 (0x03 ∷ 0x20 ∷ 0x00 ∷ 0x00 ∷ []) (resetOf v))
+      ≡ record { x0 = 799; y0 = 0; x1 = 799; y1 = 599 }
   unfolding resetOf byteOf tenBits activeOf
   last-column-only = refl
 
@@ -18,6 +19,7 @@ module _ (v : Variant) where
   columns-8-to-23 = refl
 
   -- resolution 0 at start 8: column 8 only
-  pub column-8-only : activeOf (bytesFrom 0x61 0 (0x00 ∷ 0x00 ∷ []) (bytesFrom 0x65 0 (0x00 ∷ 0x08 ∷ []) (resetOf v))) ≡ record { x0 = 8; y0 = 0; x1 = 8; y1 = 599 }
+  pub column-8-only : activeOf (bytesFrom 0x61 0 (0x00 ∷ 0x00 ∷ []) (bytesFrom 0x65 0 (0x00 ∷ 0x08 ∷ []) (resetOf v)))
+      ≡ record { x0 = 8; y0 = 0; x1 = 8; y1 = 599 }
   unfolding resetOf byteOf tenBits activeOf
   column-8-only = refl

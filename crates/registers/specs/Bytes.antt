@@ -1,4 +1,5 @@
 -- Document 01, "A data byte": what a data byte of 00, 01, 30, 50, 61, 65 or 90 does to the registers.
+use mathlib.Core.Bool.{Bool}
 use mathlib.Core.List.{List, [], _∷_}
 use Prim.Native.Nat.{ℕ, _+_, _*_, _/_, _%_, min}
 use lib.Dec.{eqb, ltb}
@@ -20,7 +21,8 @@ lowOf x b = x / 256 % 4 * 256 + b
 abbrev pub lowColumn : ℕ → ℕ → ℕ
 lowColumn x b = x / 256 % 4 * 256 + b / 8 * 8
 
--- 61 and 65: bits 9:8 of the column, its low byte, bits 9:8 of the row, its low byte; a byte past the fourth, which neither takes, would be another low byte of the row
+-- 61 and 65: bits 9:8 of the column, its low byte, bits 9:8 of the row, its low byte;
+-- a byte past the fourth, which neither takes, would be another low byte of the row
 unfoldable pub tenBits : ℕ → ℕ → Pair → Pair
 tenBits i b p =
     pick (eqb i 0) (record { h = highOf (p .h) b; v = p .v })
@@ -41,7 +43,8 @@ withY0 a n = record { x0 = a .x0; y0 = n; x1 = a .x1; y1 = a .y1 }
 abbrev pub withY1 : Area → ℕ → Area
 withY1 a n = record { x0 = a .x0; y0 = a .y0; x1 = a .x1; y1 = n }
 
--- 90: first column, last column, whose three low bits are set, first row, last row, each by its bits 9:8 and then its low byte; the ninth byte changes nothing
+-- 90: first column, last column, whose three low bits are set, first row, last row, each by its bits 9:8 and then its low byte;
+-- the ninth byte changes nothing
 unfoldable pub windowSet : ℕ → ℕ → Area → Area
 windowSet i b a =
     pick (eqb i 0) (withX0 a (highOf (a .x0) b))
@@ -66,27 +69,40 @@ windowByte i b a = heldArea (windowSet i b a)
 unfoldable pub putAt : ℕ → ℕ → ℕ → List ℕ → List ℕ
 putAt n i b l = pick (ltb i n) (set l i b) l
 
+-- the registers in their order
+abbrev pub registersOf : List ℕ → List ℕ → ℕ → List ℕ → Pair → Pair → Area → Bool → Registers
+registersOf psr power pll cdi resolution start window partial = record {
+  psr = psr;
+  power = power;
+  pll = pll;
+  cdi = cdi;
+  resolution = resolution;
+  start = start;
+  window = window;
+  partial = partial;
+}
+
 -- the registers with one changed
 abbrev pub withPsr : Registers → List ℕ → Registers
-withPsr r l = record { psr = l; power = r .power; pll = r .pll; cdi = r .cdi; resolution = r .resolution; start = r .start; window = r .window; partial = r .partial }
+withPsr r l = registersOf l (r .power) (r .pll) (r .cdi) (r .resolution) (r .start) (r .window) (r .partial)
 
 abbrev pub withPower : Registers → List ℕ → Registers
-withPower r l = record { psr = r .psr; power = l; pll = r .pll; cdi = r .cdi; resolution = r .resolution; start = r .start; window = r .window; partial = r .partial }
+withPower r l = registersOf (r .psr) l (r .pll) (r .cdi) (r .resolution) (r .start) (r .window) (r .partial)
 
 abbrev pub withPll : Registers → ℕ → Registers
-withPll r b = record { psr = r .psr; power = r .power; pll = b; cdi = r .cdi; resolution = r .resolution; start = r .start; window = r .window; partial = r .partial }
+withPll r b = registersOf (r .psr) (r .power) b (r .cdi) (r .resolution) (r .start) (r .window) (r .partial)
 
 abbrev pub withCdi : Registers → List ℕ → Registers
-withCdi r l = record { psr = r .psr; power = r .power; pll = r .pll; cdi = l; resolution = r .resolution; start = r .start; window = r .window; partial = r .partial }
+withCdi r l = registersOf (r .psr) (r .power) (r .pll) l (r .resolution) (r .start) (r .window) (r .partial)
 
 abbrev pub withResolution : Registers → Pair → Registers
-withResolution r p = record { psr = r .psr; power = r .power; pll = r .pll; cdi = r .cdi; resolution = p; start = r .start; window = r .window; partial = r .partial }
+withResolution r p = registersOf (r .psr) (r .power) (r .pll) (r .cdi) p (r .start) (r .window) (r .partial)
 
 abbrev pub withStart : Registers → Pair → Registers
-withStart r p = record { psr = r .psr; power = r .power; pll = r .pll; cdi = r .cdi; resolution = r .resolution; start = p; window = r .window; partial = r .partial }
+withStart r p = registersOf (r .psr) (r .power) (r .pll) (r .cdi) (r .resolution) p (r .window) (r .partial)
 
 abbrev pub withWindow : Registers → Area → Registers
-withWindow r a = record { psr = r .psr; power = r .power; pll = r .pll; cdi = r .cdi; resolution = r .resolution; start = r .start; window = a; partial = r .partial }
+withWindow r a = registersOf (r .psr) (r .power) (r .pll) (r .cdi) (r .resolution) (r .start) a (r .partial)
 
 -- data byte number i, from 0, of the command c
 unfoldable pub byteOf : ℕ → ℕ → ℕ → Registers → Registers

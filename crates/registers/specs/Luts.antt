@@ -4,28 +4,19 @@ use Prim.Native.Nat.{ℕ, _-_}
 use lib.Dec.{ltb}
 use lib.ListN.{getD, set, replicate}
 use Rattle.base.specs.Pick.{pick, between}
-use Rattle.registers.specs.declared.luts.Lut.{Lut}
 use Rattle.registers.specs.declared.luts.Luts.{Luts}
 
 -- a reset leaves zeros
 unfoldable pub resetLuts : Luts
-resetLuts = record { luts = replicate 5 (record { bytes = replicate 42 0 }) }
-
--- a table's bytes
-abbrev pub lutBytes : Lut → List ℕ
-lutBytes t = t .bytes
-
--- what stands past the last table
-abbrev pub noLut : Lut
-noLut = record { bytes = [] }
+resetLuts = record { bytes = replicate 5 (replicate 42 0) }
 
 -- data byte number i, from 0: a table keeps 42
-unfoldable pub keptByte : ℕ → ℕ → Lut → Lut
-keptByte i d t = pick (ltb i 42) (record { bytes = set (t .bytes) i d }) t
+unfoldable pub keptByte : ℕ → ℕ → List ℕ → List ℕ
+keptByte i d t = pick (ltb i 42) (set t i d) t
 
 -- a data byte of the command c
 unfoldable pub lutByteOf : ℕ → ℕ → ℕ → Luts → Luts
 lutByteOf c i d l =
     pick (between 0x20 0x24 c)
-    (record { luts = set (l .luts) (c - 0x20) (keptByte i d (getD (l .luts) (c - 0x20) noLut)) })
+    (record { bytes = set (l .bytes) (c - 0x20) (keptByte i d (getD (l .bytes) (c - 0x20) [])) })
     l

@@ -13,7 +13,6 @@ pub use flags::psr_rst_n;
 pub use flags::psr_shd_n;
 pub use flags::psr_shl;
 pub use flags::psr_ud;
-pub use luts::Lut;
 pub use luts::Luts;
 ghost use mathlib.Core.Path.{_≡_};
 ghost use Rattle.registers.specs.Area.{inside};
@@ -89,6 +88,21 @@ impl Registers {
 
     pub const CDI_UC8279D: [u8; 2] = [0xD7, 0x00];
 
+    // The whole RAM.
+    pub const RESOLUTION: Pair = Pair {
+        h: RAM_SOURCES,
+        v: RAM_GATES,
+    };
+
+    pub const START: Pair = Pair { h: 0, v: 0 };
+
+    pub const WINDOW: Area = Area {
+        x0: 0,
+        y0: 0,
+        x1: LAST_COLUMN,
+        y1: LAST_ROW,
+    };
+
     fn reset_cdi(variant: Variant) -> [u8; 2]
         ensures { λ r. ⌜ r ≡ resetCdi variant ⌝ }
     {
@@ -105,17 +119,9 @@ impl Registers {
         let psr = Registers::PSR;
         let power = Registers::POWER;
         let cdi = Registers::reset_cdi(variant);
-        let resolution = Pair {
-            h: RAM_SOURCES,
-            v: RAM_GATES,
-        };
-        let start = Pair { h: 0, v: 0 };
-        let window = Area {
-            x0: 0,
-            y0: 0,
-            x1: LAST_COLUMN,
-            y1: LAST_ROW,
-        };
+        let resolution = Registers::RESOLUTION;
+        let start = Registers::START;
+        let window = Registers::WINDOW;
         Registers {
             psr,
             power,

@@ -1,7 +1,6 @@
 // The LUT registers: 20 for VCOM, then 21 to 24 for the pixels.
 ghost use mathlib.Core.Path.{_≡_};
-ghost use mathlib.Core.List.{map};
-ghost use Rattle.registers.specs.Luts.{resetLuts, lutBytes, keptByte, lutByteOf};
+ghost use Rattle.registers.specs.Luts.{resetLuts, keptByte, lutByteOf};
 use command::LUTC;
 use command::LUTKK;
 use config::LUT_BYTES;
@@ -9,60 +8,45 @@ use config::LUT_BYTES;
 // One for VCOM, four for the pixels.
 const TABLES: usize = 5;
 
-// The bytes of one LUT that the model reads.
-#[repr(C)]
-pub struct Lut {
-    pub bytes: [u8; LUT_BYTES],
-}
-
+// The bytes of the LUTs that the model reads.
 #[repr(C)]
 pub struct Luts {
-    pub luts: [Lut; TABLES],
+    pub bytes: [[u8; LUT_BYTES]; TABLES],
 }
 
-impl Lut {
-    // Of a table's bytes the first 42 are kept.
-    fn with_byte(self, i: usize, byte: u8) -> Lut
-        ensures { λ r. ⌜ r ≡ keptByte i byte self ⌝ }
-    {
-        let mut r = self;
-        if i < LUT_BYTES {
-            r.bytes[i] = byte;
-            return r;
-        }
-        self
-    }
-}
-
-fn bytes_of(lut: Lut) -> [u8; LUT_BYTES]
-    ensures { λ r. ⌜ r ≡ lutBytes lut ⌝ }
+// Of a table's bytes the first 42 are kept.
+fn kept(lut: [u8; LUT_BYTES], i: usize, byte: u8) -> [u8; LUT_BYTES]
+    ensures { λ r. ⌜ r ≡ keptByte i byte lut ⌝ }
 {
-    lut.bytes
+    let mut r = lut;
+    if i < LUT_BYTES {
+        r[i] = byte;
+        return r;
+    }
+    lut
 }
 
+// The proofs of `of` and `bytes` are walks by hand, by the laws of the crate `nested`; the rest goes
+// by these two.
 impl Luts {
-    // A reset clears every LUT.
-    pub fn reset() -> Luts
-        ensures { λ r. ⌜ r ≡ resetLuts ⌝ }
+    fn of(bytes: [[u8; LUT_BYTES]; TABLES]) -> Luts
+        ensures { λ r. ⌜ r ≡ record { bytes = bytes } ⌝ }
     {
-        let lut = Lut {
-            bytes: [0; LUT_BYTES],
-        };
-        let luts = [lut; TABLES];
-        Luts { luts }
+        Luts { bytes }
     }
 
     // The bytes alone.
     pub fn bytes(self) -> [[u8; LUT_BYTES]; TABLES]
-        ensures { λ r. ⌜ r ≡ map lutBytes (self .luts) ⌝ }
+        ensures { λ r. ⌜ r ≡ self .bytes ⌝ }
     {
-        [
-            bytes_of(self.luts[0]),
-            bytes_of(self.luts[1]),
-            bytes_of(self.luts[2]),
-            bytes_of(self.luts[3]),
-            bytes_of(self.luts[4]),
-        ]
+        self.bytes
+    }
+
+    // A reset clears every LUT.
+    pub fn reset() -> Luts
+        ensures { λ r. ⌜ r ≡ resetLuts ⌝ }
+    {
+        Luts::of([[0; LUT_BYTES]; TABLES])
     }
 
     // What data byte number `index`, from 0, of a command does to the LUTs: nothing unless the command
@@ -73,11 +57,9 @@ impl Luts {
         match command {
             LUTC..=LUTKK => {
                 let k = (command - LUTC) as usize;
-                let lut = self.luts[k];
-                let next = lut.with_byte(index as usize, byte);
-                let mut r = self;
-                r.luts[k] = next;
-                r
+                let mut b = self.bytes();
+                b[k] = kept(b[k], index as usize, byte);
+                Luts::of(b)
             }
             _ => self,
         }

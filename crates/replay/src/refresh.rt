@@ -5,6 +5,7 @@ use crate::table::Checked;
 use crate::table::byte;
 use base::least;
 use rows::number;
+use waveform::LUTS;
 use waveform::Levels;
 use waveform::Waveform;
 use waveform::whole_frames;
@@ -35,21 +36,16 @@ struct Loaded {
 }
 
 fn read_waveform(s: &[u8], at: usize, levels: Levels, period: u64) -> Loaded {
-    let l0 = read_lut(s, at);
-    let l1 = read_lut(s, l0.next);
-    let l2 = read_lut(s, l1.next);
-    let l3 = read_lut(s, l2.next);
-    let l4 = read_lut(s, l3.next);
-    let b0 = l0.bytes;
-    let b1 = l1.bytes;
-    let b2 = l2.bytes;
-    let b3 = l3.bytes;
-    let b4 = l4.bytes;
-    let waveform = Waveform::new([b0, b1, b2, b3, b4], levels, period);
-    Loaded {
-        waveform,
-        next: l4.next,
+    let mut luts = [[0u8; 42]; LUTS];
+    let mut next = at;
+    for k in 0..LUTS {
+        let lut = read_lut(s, next);
+        let bytes = lut.bytes;
+        luts[k] = bytes;
+        next = lut.next;
     }
+    let waveform = Waveform::new(luts, levels, period);
+    Loaded { waveform, next }
 }
 
 // The refresh as the controller ends it: all frames, or those whole before the reset.

@@ -27,10 +27,20 @@ abbrev pub fall : ℤ → ℤ → ℕ → ℕ
 fall a b n = min ((dn a + up b - (up a + dn b)) * n) top
 
 module _ (l : Levels) (n s v : ℕ) (h : floats v ≡ false) where
-  pub drives-white : Drives (driveOf l n false s v) ≡ record { up = rise (levelOfCode l s) (levelOfCode l v) n; down = fall (levelOfCode l s) (levelOfCode l v) n }
-  unfolding driveOf
-  drives-white = rw h (λ i. record { up = min (up-volts (levelOfCode l s) (levelOfCode l v) n i) top; down = min (dn-volts (levelOfCode l s) (levelOfCode l v) n i) top })
+  abbrev a : ℤ
+  a = levelOfCode l s
 
-  pub drives-black : Drives (driveOf l n true s v) ≡ record { up = fall (levelOfCode l s) (levelOfCode l v) n; down = rise (levelOfCode l s) (levelOfCode l v) n }
+  abbrev b : ℤ
+  b = levelOfCode l v
+
+  pub drives-white : Drives (driveOf l n false s v) ≡ record { up = rise a b n; down = fall a b n }
   unfolding driveOf
-  drives-black = rw h (λ i. record { up = min ((up-neg ((levelOfCode l s -ℤ levelOfCode l v) *ℤ pos n) ∙ dn-volts (levelOfCode l s) (levelOfCode l v) n) i) top; down = min ((dn-neg ((levelOfCode l s -ℤ levelOfCode l v) *ℤ pos n) ∙ up-volts (levelOfCode l s) (levelOfCode l v) n) i) top })
+  drives-white = rw h (λ i. record { up = min (up-volts a b n i) top; down = min (dn-volts a b n i) top })
+
+  pub drives-black : Drives (driveOf l n true s v) ≡ record { up = fall a b n; down = rise a b n }
+  unfolding driveOf
+  drives-black =
+      rw h (λ i. record {
+        up = min ((up-neg ((a -ℤ b) *ℤ pos n) ∙ dn-volts a b n) i) top;
+        down = min ((dn-neg ((a -ℤ b) *ℤ pos n) ∙ up-volts a b n) i) top;
+      })

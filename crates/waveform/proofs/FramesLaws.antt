@@ -3,22 +3,21 @@ use mathlib.Core.Path.{_≡_, refl, ap, _∙_}
 use mathlib.Core.Bool.{Bool}
 use mathlib.Core.List.{List, [], _∷_}
 use Prim.Native.Nat.{ℕ, suc, _+_, _*_, _≤_}
-use native.Mathlib.Omega.{arith}
 use lib.ListN.{length, getD, replicate, length-replicate}
-use Rattle.base.proofs.InTurn.{sumTo, length-in-turn, sum-first, sum-equal}
+use Rattle.base.specs.Listed.{sumTo}
+use Rattle.base.proofs.InTurn.{length-in-turn, sum-first, sum-equal}
 use Rattle.base.proofs.Lists.{getD-past}
 use Rattle.waveform.specs.declared.Group.{Group}
 use Rattle.waveform.specs.declared.Levels.{Levels}
-use Rattle.waveform.specs.declared.Table.{Table}
 use Rattle.waveform.specs.declared.Waveform.{Waveform}
-use Rattle.waveform.specs.Tables.{sumOf, running, countOf, counted, heldOf, tableAt}
+use Rattle.waveform.specs.Tables.{sumOf, running, countOf, counted, tableAt}
 use Rattle.waveform.specs.Frames.{blank, driveOf, vcomCodes, roundFrames, groupFrames, tableFrames, framesOf}
 
 module _ (l : Levels) (period : ℕ) (black : Bool) where
   round-length : (g : Group) (vcom : List ℕ) → length (roundFrames l period black g vcom) ≡ sumOf (g .frames)
   round-length g vcom =
       length-in-turn 4 (λ p. replicate (getD (g .frames) p 0) (driveOf l period black (getD (g .codes) p 0) (getD vcom p 0)))
-      ∙ simp length-replicate (omega arith)
+      ∙ simp length-replicate
 
   group-length : (g : Group) (vcom : List ℕ) → length (groupFrames l period black g vcom) ≡ g .repeats * sumOf (g .frames)
   group-length g vcom =
@@ -27,7 +26,8 @@ module _ (l : Levels) (period : ℕ) (black : Bool) where
       ∙ sum-equal (g .repeats) (sumOf (g .frames))
 
   -- groups in turn, whatever VCOM's codes in each
-  groups-length : (gs : List Group) (codes : ℕ → List ℕ) → sumTo (length gs) (λ k. length (groupFrames l period black (getD gs k blank) (codes k))) ≡ countOf gs
+  groups-length : (gs : List Group) (codes : ℕ → List ℕ) →
+      sumTo (length gs) (λ k. length (groupFrames l period black (getD gs k blank) (codes k))) ≡ countOf gs
   groups-length [] codes = refl
   groups-length (g ∷ gs) codes =
       sum-first (length gs) (λ k. length (groupFrames l period black (getD (g ∷ gs) k blank) (codes k)))
@@ -35,10 +35,10 @@ module _ (l : Levels) (period : ℕ) (black : Bool) where
 
   pub frames-length : (table vcom : List Group) → length (tableFrames l period black table vcom) ≡ counted table
   frames-length table vcom =
-      length-in-turn (length (running table)) (λ k. groupFrames l period black (getD (running table) k blank) (vcomCodes vcom k))
+      length-in-turn (length (running table)) _
       ∙ groups-length (running table) (vcomCodes vcom)
 
 -- a number that no table has
 pub frames-none : (w : Waveform) (black : Bool) (lut : ℕ) → length (w .tables) ≤ lut → framesOf w black lut ≡ []
 frames-none w black lut h =
-    ap (λ (t : Table). tableFrames (w .levels) (w .«frame_ns») black (t .groups) (tableAt w 0)) (getD-past (w .tables) lut (heldOf []) h)
+    ap (λ (t : List Group). tableFrames (w .levels) (w .«frame_ns») black t (tableAt w 0)) (getD-past (w .tables) lut [] h)

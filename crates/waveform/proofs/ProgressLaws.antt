@@ -26,7 +26,9 @@ take-append : (b : ℕ) (xs ys : List ℤ) → take b (xs ++ ys) ≡ take b xs +
 take-append zero [] ys = refl
 take-append (suc b) [] ys = ap (λ (n : ℕ). take n ys) {x = suc b} {y = suc b - 0} (omega arith)
 take-append zero (x ∷ xs) ys = ap (λ (n : ℕ). take n ys) {x = 0} {y = 0 - suc (length xs)} (omega arith)
-take-append (suc b) (x ∷ xs) ys = ap (λ (l : List ℤ). x ∷ l) (take-append b xs ys ∙ ap (λ (n : ℕ). take b xs ++ take n ys) (sym (suc-sub-suc b (length xs))))
+take-append (suc b) (x ∷ xs) ys =
+    ap (λ (l : List ℤ). x ∷ l)
+    (take-append b xs ys ∙ ap (λ (n : ℕ). take b xs ++ take n ys) (sym (suc-sub-suc b (length xs))))
 
 take-replicate : (b n : ℕ) (d : ℤ) → take b (replicate n d) ≡ replicate (min n b) d
 take-replicate zero n d = ap (λ (k : ℕ). replicate k d) {x = 0} {y = min n 0} (omega arith)
@@ -52,7 +54,9 @@ phaseOf s p n z = record {
 
 pub phase-extends : (s : ℕ) (p : Progress) (n : ℕ) (z : ℤ) → s ≤ top → Extends s p (phaseOf s p n z) (replicate n z)
 phase-extends s p n z h b xs g = record {
-  acts = rw (take-append b xs (replicate n z), ← g .rest, take-replicate (p .left) n z) (acts-then s (p .run) _ (take b xs) (replicate (min n (p .left)) z) h (g .acts) (acts-repeated s (min n (p .left)) z h));
+  acts =
+      rw (take-append b xs (replicate n z), ← g .rest, take-replicate (p .left) n z)
+      (acts-then s (p .run) _ (take b xs) (replicate (min n (p .left)) z) h (g .acts) (acts-repeated s (min n (p .left)) z h));
   rest = simp (length-append, length-replicate) (omega (arith, g .rest));
 }
 

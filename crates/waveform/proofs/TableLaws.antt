@@ -1,15 +1,15 @@
--- Where a table ends, group by group, and how many frames it has.
+-- Where a table ends, group by group, and which is the longest.
 use mathlib.Core.Path.{_≡_, refl}
 use mathlib.Core.Bool.{true, false}
 use mathlib.Core.List.{List, [], _∷_}
-use Prim.Native.Nat.{ℕ, zero, suc, _+_, _<_, _≤_}
+use Prim.Native.Nat.{ℕ, zero, suc, _+_, _<_, _≤_, max}
 use native.Mathlib.Numerals.{add-one}
 use native.Mathlib.Omega.{arith}
 use lib.ListN.{length, getD, drop, drop-of-length-le}
 use lib.Seq.{drop-cons}
 use Rattle.base.proofs.Cases.{by-cases}
 use Rattle.waveform.specs.declared.Group.{Group}
-use Rattle.waveform.specs.Tables.{ends, running}
+use Rattle.waveform.specs.Tables.{ends, running, counted, longest}
 
 -- what an index past a table's end would read
 abbrev pub unread : Group
@@ -43,3 +43,16 @@ running-get (g ∷ t) d e k h =
   where
     nothing : (k : ℕ) → k < 0 → ⊥
     nothing k l = omega arith
+
+-- ---- the longest of the tables from the k-th on
+pub longest-more : (ts : List (List Group)) (k : ℕ) → k < length ts →
+    longest (drop k ts) ≡ max (counted (getD ts k [])) (longest (drop (k + 1) ts))
+longest-more ts k h = rw (drop-cons ts k [] h, add-one k)
+
+pub longest-done : (ts : List (List Group)) (k : ℕ) → length ts ≤ k → longest (drop k ts) ≡ 0
+longest-done ts k h = rw (drop-of-length-le ts h)
+
+-- tables of which no group runs
+pub longest-empty : (ts : List (List Group)) → ((k : ℕ) → running (getD ts k []) ≡ []) → longest ts ≡ 0
+longest-empty [] h = refl
+longest-empty (t ∷ ts) h = rw (h 0, longest-empty ts (λ k. h (suc k)))

@@ -30,7 +30,8 @@ vcomCodes vcom k = getD (running vcom) k blank .codes
 
 -- four phases in turn, each for its frame count
 abbrev pub roundFrames : Levels → ℕ → Bool → Group → List ℕ → List ℤ
-roundFrames l period black g vcom = inTurn 4 (λ p. replicate (getD (g .frames) p 0) (driveOf l period black (getD (g .codes) p 0) (getD vcom p 0)))
+roundFrames l period black g vcom =
+    inTurn 4 (λ p. replicate (getD (g .frames) p 0) (driveOf l period black (getD (g .codes) p 0) (getD vcom p 0)))
 
 -- that round as often as the group's repeats say
 abbrev pub groupFrames : Levels → ℕ → Bool → Group → List ℕ → List ℤ
@@ -38,7 +39,8 @@ groupFrames l period black g vcom = inTurn (g .repeats) (λ i. roundFrames l per
 
 -- group by group
 abbrev pub tableFrames : Levels → ℕ → Bool → List Group → List Group → List ℤ
-tableFrames l period black table vcom = inTurn (length (running table)) (λ k. groupFrames l period black (getD (running table) k blank) (vcomCodes vcom k))
+tableFrames l period black table vcom =
+    inTurn (length (running table)) (λ k. groupFrames l period black (getD (running table) k blank) (vcomCodes vcom k))
 
 -- the frames of the table with a number
 abbrev pub framesOf : Waveform → Bool → ℕ → List ℤ

@@ -18,7 +18,10 @@ levelsOf power = record { vdh = supplyLevel (getD power 2 0); vdl = supplyLevel 
 
 -- the level of a 2-bit code: 0 is 0; codes 1, 2, 3 are the third byte of 01, the fourth negated and the fifth
 unfoldable pub levelOfCode : Levels → ℕ → ℤ
-levelOfCode l code = pick (eqb (code % 4) 1) (pos (l .vdh)) (pick (eqb (code % 4) 2) (negℤ (pos (l .vdl))) (pick (eqb (code % 4) 3) (pos (l .vdhr)) (pos 0)))
+levelOfCode l code =
+    pick (eqb (code % 4) 1) (pos (l .vdh))
+    (pick (eqb (code % 4) 2) (negℤ (pos (l .vdl)))
+    (pick (eqb (code % 4) 3) (pos (l .vdhr)) (pos 0)))
 
 -- code 3 of VCOM floats
 unfoldable pub floats : ℕ → Bool

@@ -10,6 +10,9 @@ use Rattle.glass.specs.Transfer.{Acts}
 use Rattle.waveform.specs.declared.Drive.{Drive}
 use Rattle.waveform.specs.declared.Volts.{Volts}
 use Rattle.waveform.specs.declared.Progress.{Progress}
+use Rattle.waveform.specs.declared.Supply.{Supply}
+use Rattle.waveform.specs.declared.Group.{Group}
+use Rattle.waveform.specs.Frames.{tableFrames}
 
 -- a level's two parts, in millivolts
 abbrev pub Parts : ℤ → Volts
@@ -27,3 +30,7 @@ pub record Driven (s b : ℕ) (p : Progress) (ds : List ℤ) : Type 0 where
 -- q is p with the frames ds driven after
 abbrev pub Extends : ℕ → Progress → Progress → List ℤ → Type 0
 Extends s p q ds = (b : ℕ) (xs : List ℤ) → Driven s b p xs → Driven s b q (xs ++ ds)
+
+-- the frames of a table under a supply
+abbrev pub framesUnder : Supply → List Group → List Group → List ℤ
+framesUnder s table vcom = tableFrames (s .levels) (s .«frame_ns») (s .«positive_drives_black») table vcom

@@ -5,9 +5,9 @@ use mathlib.Core.List.{List, [], _∷_, map}
 use lib.Dec.{eqb}
 use lib.ListN.{getD}
 use Rattle.base.specs.Pick.{pick}
+use Rattle.base.specs.Listed.{listed, sumTo}
 use Rattle.base.specs.Word.{top}
 use Rattle.waveform.specs.declared.Group.{Group}
-use Rattle.waveform.specs.declared.Table.{Table}
 use Rattle.waveform.specs.declared.Levels.{Levels}
 use Rattle.waveform.specs.declared.Waveform.{Waveform}
 
@@ -21,15 +21,15 @@ groupOf b k = record {
 
 -- seven groups
 abbrev pub tableOf : List ℕ → List Group
-tableOf b = groupOf b 0 ∷ groupOf b 1 ∷ groupOf b 2 ∷ groupOf b 3 ∷ groupOf b 4 ∷ groupOf b 5 ∷ groupOf b 6 ∷ []
+tableOf b = listed 7 (groupOf b)
 
--- five tables
+-- a table of each LUT
 abbrev pub tablesOf : List (List ℕ) → List (List Group)
-tablesOf luts = tableOf (getD luts 0 []) ∷ tableOf (getD luts 1 []) ∷ tableOf (getD luts 2 []) ∷ tableOf (getD luts 3 []) ∷ tableOf (getD luts 4 []) ∷ []
+tablesOf luts = map tableOf luts
 
 -- the frames of one round: the four counts together
 abbrev pub sumOf : List ℕ → ℕ
-sumOf counts = getD counts 0 0 + (getD counts 1 0 + (getD counts 2 0 + getD counts 3 0))
+sumOf counts = sumTo 4 (λ phase. getD counts phase 0)
 
 -- a table ends at the first group with repeats 0 or all counts 0
 unfoldable pub ends : Group → Bool
@@ -47,21 +47,18 @@ countOf (g ∷ gs) = g .repeats * sumOf (g .frames) + countOf gs
 abbrev pub counted : List Group → ℕ
 counted gs = countOf (running gs)
 
--- the decoded tables in the form that a record holds
-abbrev pub heldOf : List Group → Table
-heldOf t = record { groups = t }
-
 abbrev pub waveformOf : List (List ℕ) → Levels → ℕ → Waveform
-waveformOf luts l period = record { tables = map heldOf (tablesOf luts); levels = l; «frame_ns» = period }
+waveformOf luts l period = record { tables = tablesOf luts; levels = l; «frame_ns» = period }
 
 -- the table with a number, 0 VCOM's and 1 to 4 the pixels'; a number that no table has gives an empty one
 abbrev pub tableAt : Waveform → ℕ → List Group
-tableAt w k = getD (w .tables) k (heldOf []) .groups
+tableAt w k = getD (w .tables) k []
 
--- the longest of the five
-abbrev pub longest : Waveform → ℕ
-longest w = max (counted (tableAt w 0)) (max (counted (tableAt w 1)) (max (counted (tableAt w 2)) (max (counted (tableAt w 3)) (counted (tableAt w 4)))))
+-- the frames of the longest table
+abbrev pub longest : List (List Group) → ℕ
+longest [] = 0
+longest (t ∷ ts) = max (counted t) (longest ts)
 
 -- (longest table + 2) × period, held at 2^64 - 1
 abbrev pub durationOf : Waveform → ℕ
-durationOf w = min ((longest w + 2) * w .«frame_ns») top
+durationOf w = min ((longest (w .tables) + 2) * w .«frame_ns») top

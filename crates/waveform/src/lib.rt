@@ -12,14 +12,23 @@ ghost use lib.IntN.{ℤ};
 ghost use Rattle.base.specs.Word.{top};
 ghost use Rattle.glass.specs.Transfer.{Acts};
 ghost use Rattle.waveform.specs.Levels.{supplyLevel, levelsOf, levelOfCode};
-ghost use Rattle.waveform.specs.Tables.{groupOf, tableOf, tablesOf, heldOf, waveformOf, sumOf, ends, running, counted, durationOf};
-ghost use Rattle.waveform.specs.Frames.{driveOf, vcomCodes, roundFrames, groupFrames, tableFrames, framesOf};
-ghost use Rattle.waveform.specs.Progress.{Parts, Drives, Extends};
+ghost use Rattle.waveform.specs.Tables.{groupOf, tableOf, tablesOf, waveformOf, sumOf, ends, running, counted, durationOf};
+ghost use Rattle.waveform.specs.Frames.{driveOf, vcomCodes, roundFrames, groupFrames, framesOf};
+ghost use Rattle.waveform.specs.Progress.{Parts, Drives, Extends, framesUnder};
 use base::greatest;
 use base::least;
 use base::saturating_mul;
 use base::saturating_sub;
 use glass::Transfer;
+
+// Groups of a LUT.
+pub const GROUPS: usize = 7;
+// Bytes of a group.
+const GROUP_BYTES: usize = 6;
+// Bytes of a LUT.
+const LUT_BYTES: usize = GROUPS * GROUP_BYTES;
+// Phases of a group.
+const PHASES: usize = 4;
 
 // The LUTs: 0 drives VCOM (20), 1 to 4 the pixels by their old and new bits (21 to 24).
 pub const LUTS: usize = 5;
@@ -68,33 +77,33 @@ impl Levels {
 #[repr(C)]
 pub struct Group {
     // The level selects of phases A to D.
-    pub codes: [u8; 4],
-    pub frames: [u8; 4],
+    pub codes: [u8; PHASES],
+    pub frames: [u8; PHASES],
     // How many times the group runs.
     pub repeats: u8,
-}
-
-// A LUT decoded.
-#[repr(C)]
-pub struct Table {
-    pub groups: [Group; 7],
 }
 
 // The five LUTs as a refresh reads them, with the supplies and the frame period: table 0 drives
 // VCOM, 1 to 4 the pixels by their old and new bits.
 #[repr(C)]
 pub struct Waveform {
-    pub tables: [Table; 5],
+    pub tables: [[Group; GROUPS]; LUTS],
     pub levels: Levels,
     pub frame_ns: u64,
 }
 
 impl Group {
-    fn read(lut: [u8; 42], group: usize) -> Group
+    pub const BLANK: Group = Group {
+        codes: [0; PHASES],
+        frames: [0; PHASES],
+        repeats: 0,
+    };
+
+    fn read(lut: &[u8; LUT_BYTES], group: usize) -> Group
         requires { ⌜ group < 7 ⌝ }
-        ensures { λ r. ⌜ r ≡ groupOf lut group ⌝ }
+        ensures { λ r. ⌜ r ≡ groupOf (now (lut .entry)) group ⌝ }
     {
-        let at = group * 6;
+        let at = group * GROUP_BYTES;
         let levels = lut[at];
         Group {
             codes: [levels / 64, levels / 16 % 4, levels / 4 % 4, levels % 4],
@@ -104,29 +113,25 @@ impl Group {
     }
 }
 
-fn decode_table(lut: [u8; 42]) -> [Group; 7]
-    ensures { λ r. ⌜ r ≡ tableOf lut ⌝ }
+fn decode_table(lut: &[u8; LUT_BYTES]) -> [Group; GROUPS]
+    ensures { λ r. ⌜ r ≡ tableOf (now (lut .entry)) ⌝ }
 {
-    let g0 = Group::read(lut, 0);
-    let g1 = Group::read(lut, 1);
-    let g2 = Group::read(lut, 2);
-    let g3 = Group::read(lut, 3);
-    let g4 = Group::read(lut, 4);
-    let g5 = Group::read(lut, 5);
-    let g6 = Group::read(lut, 6);
-    [g0, g1, g2, g3, g4, g5, g6]
+    let mut table = [Group::BLANK; GROUPS];
+    for k in 0..GROUPS {
+        table[k] = Group::read(lut, k);
+    }
+    table
 }
 
 // The five LUT registers, decoded.
-pub fn decode(luts: [[u8; 42]; 5]) -> [[Group; 7]; 5]
+pub fn decode(luts: [[u8; LUT_BYTES]; LUTS]) -> [[Group; GROUPS]; LUTS]
     ensures { λ r. ⌜ r ≡ tablesOf luts ⌝ }
 {
-    let t0 = decode_table(luts[0]);
-    let t1 = decode_table(luts[1]);
-    let t2 = decode_table(luts[2]);
-    let t3 = decode_table(luts[3]);
-    let t4 = decode_table(luts[4]);
-    [t0, t1, t2, t3, t4]
+    let mut tables = [[Group::BLANK; GROUPS]; LUTS];
+    for k in 0..LUTS {
+        tables[k] = decode_table(&luts[k]);
+    }
+    tables
 }
 
 fn wide(b: u8) -> u64
@@ -139,8 +144,12 @@ fn wide(b: u8) -> u64
 fn round_frames(group: Group) -> u64
     ensures { λ r. ⌜ (r ≡ sumOf (group .frames)) × (r ≤ 1020) ⌝ }
 {
-    let f = group.frames;
-    wide(f[0]) + (wide(f[1]) + (wide(f[2]) + wide(f[3])))
+    let frames = group.frames;
+    let mut sum: u64 = 0;
+    for phase in 0..PHASES {
+        sum += wide(frames[phase]);
+    }
+    sum
 }
 
 // The waveform ends here: the group runs no time, or has no frame.
@@ -154,11 +163,11 @@ fn ends_table(group: Group) -> bool
 }
 
 // How many groups of a table run.
-fn running_groups(table: [Group; 7]) -> usize
+fn running_groups(table: [Group; GROUPS]) -> usize
     ensures { λ r. ⌜ r ≡ length (running table) ⌝ }
 {
     let mut k = 0;
-    while k < 7 {
+    while k < GROUPS {
         if ends_table(table[k]) {
             return k;
         }
@@ -175,12 +184,12 @@ fn group_frames(group: Group) -> u64
 }
 
 // The frames of a table, up to its end.
-fn table_frames(table: [Group; 7]) -> u64
+fn table_frames(table: [Group; GROUPS]) -> u64
     ensures { λ r. ⌜ (r ≡ counted table) × (r ≤ 1820700) ⌝ }
 {
     let mut sum: u64 = 0;
     let mut k: usize = 0;
-    while k < 7 {
+    while k < GROUPS {
         if ends_table(table[k]) {
             return sum;
         }
@@ -290,13 +299,19 @@ fn drive_phase(p: Progress, n: u64, drive: Drive, swing: u64) -> Progress
 }
 
 // The four phases in turn.
-fn drive_round(p: Progress, group: Group, vcom: [u8; 4], supply: Supply, swing: u64) -> Progress
+fn drive_round(
+    p: Progress,
+    group: Group,
+    vcom: [u8; PHASES],
+    supply: Supply,
+    swing: u64,
+) -> Progress
     ensures { λ r. ⌜ Extends swing p r (roundFrames (supply .levels) (supply .«frame_ns») (supply .«positive_drives_black») group vcom) ⌝ }
 {
     let codes = group.codes;
     let frames = group.frames;
     let mut q = p;
-    for i in 0usize..4 {
+    for i in 0..PHASES {
         q = drive_phase(
             q,
             wide(frames[i]),
@@ -308,7 +323,13 @@ fn drive_round(p: Progress, group: Group, vcom: [u8; 4], supply: Supply, swing: 
 }
 
 // The round, as often as the group's repeats say.
-fn drive_group(p: Progress, group: Group, vcom: [u8; 4], supply: Supply, swing: u64) -> Progress
+fn drive_group(
+    p: Progress,
+    group: Group,
+    vcom: [u8; PHASES],
+    supply: Supply,
+    swing: u64,
+) -> Progress
     ensures { λ r. ⌜ Extends swing p r (groupFrames (supply .levels) (supply .«frame_ns») (supply .«positive_drives_black») group vcom) ⌝ }
 {
     let repeats = wide(group.repeats);
@@ -320,7 +341,7 @@ fn drive_group(p: Progress, group: Group, vcom: [u8; 4], supply: Supply, swing: 
 }
 
 // VCOM's codes in a group, of whose groups `running` run: 0 once its table has ended.
-fn vcom_codes(vcom: [Group; 7], runs: usize, group: usize) -> [u8; 4]
+fn vcom_codes(vcom: [Group; GROUPS], runs: usize, group: usize) -> [u8; PHASES]
     requires { ⌜ runs ≡ length (running vcom) ⌝ }
     ensures { λ r. ⌜ r ≡ vcomCodes vcom group ⌝ }
 {
@@ -328,12 +349,18 @@ fn vcom_codes(vcom: [Group; 7], runs: usize, group: usize) -> [u8; 4]
         let g = vcom[group];
         return g.codes;
     }
-    [0; 4]
+    [0; PHASES]
 }
 
 // The first frames of a table, group by group.
-fn drive_table(table: [Group; 7], vcom: [Group; 7], supply: Supply, swing: u64, n: u64) -> Transfer
-    ensures { λ r. ⌜ Acts swing r (take n (tableFrames (supply .levels) (supply .«frame_ns») (supply .«positive_drives_black») table vcom)) ⌝ }
+fn drive_table(
+    table: [Group; GROUPS],
+    vcom: [Group; GROUPS],
+    supply: Supply,
+    swing: u64,
+    n: u64,
+) -> Transfer
+    ensures { λ r. ⌜ Acts swing r (take n (framesUnder supply table vcom)) ⌝ }
 {
     let runs = running_groups(table);
     let vcom_runs = running_groups(vcom);
@@ -356,26 +383,12 @@ pub fn whole_frames(clock: u64, start: u64, period: u64) -> u64
     saturating_sub(clock, start) / period
 }
 
-fn frames_in(table: Table) -> u64
-    ensures { λ r. ⌜ (r ≡ counted (table .groups)) × (r ≤ 1820700) ⌝ }
-{
-    let groups = table.groups;
-    table_frames(groups)
-}
-
-fn held(groups: [Group; 7]) -> Table
-    ensures { λ r. ⌜ r ≡ heldOf groups ⌝ }
-{
-    Table { groups }
-}
-
+// The proofs of `of` and `tables` are walks by hand, by the laws of the crate `nested`; the rest goes
+// by these two.
 impl Waveform {
-    // The LUT registers decoded, for a refresh at these levels and this frame period.
-    pub fn new(luts: [[u8; 42]; 5], levels: Levels, frame_ns: u64) -> Waveform
-        ensures { λ r. ⌜ r ≡ waveformOf luts levels «frame_ns» ⌝ }
+    pub fn of(tables: [[Group; GROUPS]; LUTS], levels: Levels, frame_ns: u64) -> Waveform
+        ensures { λ r. ⌜ r ≡ record { tables = tables; levels = levels; «frame_ns» = «frame_ns» } ⌝ }
     {
-        let t = decode(luts);
-        let tables = [held(t[0]), held(t[1]), held(t[2]), held(t[3]), held(t[4])];
         Waveform {
             tables,
             levels,
@@ -383,21 +396,30 @@ impl Waveform {
         }
     }
 
+    fn tables(self) -> [[Group; GROUPS]; LUTS]
+        ensures { λ r. ⌜ r ≡ self .tables ⌝ }
+    {
+        self.tables
+    }
+
+    // The LUT registers decoded, for a refresh at these levels and this frame period.
+    pub fn new(luts: [[u8; LUT_BYTES]; LUTS], levels: Levels, frame_ns: u64) -> Waveform
+        ensures { λ r. ⌜ r ≡ waveformOf luts levels «frame_ns» ⌝ }
+    {
+        Waveform::of(decode(luts), levels, frame_ns)
+    }
+
     // How long the refresh drives the glass: the longest of the five LUTs, then two frames of
     // VCOM_DC.
     pub fn duration_ns(self) -> u64
         ensures { λ r. ⌜ r ≡ durationOf self ⌝ }
     {
-        let t0 = self.tables[0];
-        let t1 = self.tables[1];
-        let t2 = self.tables[2];
-        let t3 = self.tables[3];
-        let t4 = self.tables[4];
-        let n3 = greatest(frames_in(t3), frames_in(t4));
-        let n2 = greatest(frames_in(t2), n3);
-        let n1 = greatest(frames_in(t1), n2);
-        let n0 = greatest(frames_in(t0), n1);
-        saturating_mul(n0 + TAIL_FRAMES, self.frame_ns)
+        let tables = self.tables();
+        let mut frames: u64 = 0;
+        for k in 0..LUTS {
+            frames = greatest(frames, table_frames(tables[k]));
+        }
+        saturating_mul(frames + TAIL_FRAMES, self.frame_ns)
     }
 
     // What table `lut` does to a state of 0 ..= swing over the first n frames of the refresh.
@@ -413,10 +435,7 @@ impl Waveform {
         if LUTS <= lut {
             return Transfer::identity(swing);
         }
-        let t = self.tables[lut];
-        let v = self.tables[0];
-        let table = t.groups;
-        let vcom = v.groups;
+        let tables = self.tables();
         let levels = self.levels;
         let frame_ns = self.frame_ns;
         let supply = Supply {
@@ -424,7 +443,7 @@ impl Waveform {
             frame_ns,
             positive_drives_black,
         };
-        drive_table(table, vcom, supply, swing, n)
+        drive_table(tables[lut], tables[0], supply, swing, n)
     }
 
     // What table `lut` does to a state of 0 ..= swing over the whole refresh.
@@ -434,8 +453,8 @@ impl Waveform {
         if LUTS <= lut {
             return Transfer::identity(swing);
         }
-        let t = self.tables[lut];
-        let n = frames_in(t);
+        let tables = self.tables();
+        let n = table_frames(tables[lut]);
         self.transfer_first(lut, swing, positive_drives_black, n)
     }
 }

@@ -1,53 +1,82 @@
--- `waveform::decode` meets its contract, table by table.
+-- `waveform::decode` meets its contract. The loop's invariant: the tables so far are those of the first LUTs.
+use mathlib.Core.Path.{_≡_, refl, sym, ap, _∙_}
+use mathlib.Core.List.{List, []}
+use Prim.Native.Nat.{ℕ, _-_, _≤_}
+use native.Mathlib.Omega.{arith}
+use lib.ListN.{length, take, getD, length-set}
+use Rattle.base.specs.Listed.{listed}
+use Rattle.base.proofs.Listed.{filled-more, filled, map-listed}
+use Rattle.waveform.specs.declared.Group.{Group}
+use Rattle.waveform.specs.Tables.{tableOf}
 use borrow.Author.Needs.{needs}
 use Rattle.waveform.proofs.decode.Statement.{statement}
 use Rattle.waveform.proofs.decode.Tie as tie
 
-array-copy-out-decode-table : tie.Need-array-copy-out-decode-table
-array-copy-out-decode-table c = search needs
+-- table number k
+abbrev decoded : List (List ℕ) → ℕ → List Group
+decoded luts k = tableOf (getD luts k [])
 
-decode-table-requires : tie.Need-decode-table-requires
+abbrev Inv-loop : tie.InvT-loop
+Inv-loop luts tables₀ k₀ tables k = (take k tables ≡ listed k (decoded luts)) × (k ≤ 5) × (length tables ≡ 5)
+
+abbrev μ-loop : tie.MeasureT-loop
+μ-loop luts tables₀ k₀ tables k = 5 - k
+
+loop-holds : tie.Need-loop-holds Inv-loop μ-loop
+loop-holds c = (refl, omega arith, refl)
+
+mul-decode-table : tie.Need-mul-decode-table Inv-loop μ-loop
+mul-decode-table c = search needs
+
+index-1-decode-table : tie.Need-index-1-decode-table Inv-loop μ-loop
+index-1-decode-table c = search needs
+
+decode-table-requires : tie.Need-decode-table-requires Inv-loop μ-loop
 decode-table-requires c κs = search needs
 
-array-copy-out-decode-table-2 : tie.Need-array-copy-out-decode-table-2
-array-copy-out-decode-table-2 c = search needs
+mul-tables : tie.Need-mul-tables Inv-loop μ-loop
+mul-tables c = search needs
 
-decode-table-requires-2 : tie.Need-decode-table-requires-2
-decode-table-requires-2 c κs = search needs
+array-set-from-tables : tie.Need-array-set-from-tables Inv-loop μ-loop
+array-set-from-tables c = search needs
 
-array-copy-out-decode-table-3 : tie.Need-array-copy-out-decode-table-3
-array-copy-out-decode-table-3 c = search needs
+add-k : tie.Need-add-k Inv-loop μ-loop
+add-k c = search needs
 
-decode-table-requires-3 : tie.Need-decode-table-requires-3
-decode-table-requires-3 c κs = search needs
+loop-less : tie.Need-loop-less Inv-loop μ-loop
+loop-less c = search needs
 
-array-copy-out-decode-table-4 : tie.Need-array-copy-out-decode-table-4
-array-copy-out-decode-table-4 c = search needs
+loop-again : tie.Need-loop-again Inv-loop μ-loop
+loop-again c =
+    let l = c .before .before .before .loop in
+    let luts = c .before .before .before .before .args .t1 in (
+      filled-more (l .tables) (l .k) (decoded luts) (l .inv .0) _ (c .decode-table .ensures) (omega arith),
+      omega arith,
+      simp length-set (l .inv .2),
+    )
 
-decode-table-requires-4 : tie.Need-decode-table-requires-4
-decode-table-requires-4 c κs = search needs
-
-array-copy-out-decode-table-5 : tie.Need-array-copy-out-decode-table-5
-array-copy-out-decode-table-5 c = search needs
-
-decode-table-requires-5 : tie.Need-decode-table-requires-5
-decode-table-requires-5 c κs = search needs
-
-returns : tie.Need-returns
-returns c = simp (c .before .before .before .before .before .before .before .before .decode-table .ensures, c .before .before .before .before .before .before .decode-table2 .ensures, c .before .before .before .before .decode-table3 .ensures, c .before .before .decode-table4 .ensures, c .decode-table5 .ensures)
+returns : tie.Need-returns Inv-loop μ-loop
+returns c =
+    let l = c .before .loop in
+    let luts = c .before .before .args .t1 in
+    let five : length luts ≡ 5 = search needs in
+    filled (l .tables) (l .k) (decoded luts) (l .inv .0) 5 (l .inv .2) (omega arith)
+    ∙ ap (λ (n : ℕ). listed n (decoded luts)) (sym five)
+    ∙ sym (map-listed tableOf luts [])
 
 pub decode-spec : {M : Type 1} → statement M
 decode-spec =
     tie.close
     (tie.spec
-    array-copy-out-decode-table
+    Inv-loop
+    μ-loop
+    loop-holds
+    mul-decode-table
+    index-1-decode-table
     decode-table-requires
-    array-copy-out-decode-table-2
-    decode-table-requires-2
-    array-copy-out-decode-table-3
-    decode-table-requires-3
-    array-copy-out-decode-table-4
-    decode-table-requires-4
-    array-copy-out-decode-table-5
-    decode-table-requires-5
+    mul-tables
+    array-set-from-tables
+    add-k
+    loop-less
+    loop-again
     returns)

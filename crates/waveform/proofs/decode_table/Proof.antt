@@ -1,41 +1,64 @@
--- `waveform::decode_table` meets its contract, group by group.
+-- `waveform::decode_table` meets its contract. The loop's invariant: the groups so far are the table's first.
+use mathlib.Core.Path.{_≡_, refl}
+use Prim.Native.Nat.{_-_, _≤_}
+use native.Mathlib.Omega.{arith}
+use lib.ListN.{length, take, length-set}
+use Rattle.base.specs.Listed.{listed}
+use Rattle.base.proofs.Listed.{filled-more, filled}
+use Rattle.waveform.specs.Tables.{groupOf}
 use borrow.Author.Needs.{needs}
 use Rattle.waveform.proofs.decode_table.Statement.{statement}
 use Rattle.waveform.proofs.decode_table.Tie as tie
 
-read-requires : tie.Need-read-requires
+abbrev Inv-loop : tie.InvT-loop
+Inv-loop lut table₀ k₀ table k = (take k table ≡ listed k (groupOf lut)) × (k ≤ 7) × (length table ≡ 7)
+
+abbrev μ-loop : tie.MeasureT-loop
+μ-loop lut table₀ k₀ table k = 7 - k
+
+loop-holds : tie.Need-loop-holds Inv-loop μ-loop
+loop-holds c = (refl, omega arith, refl)
+
+read-requires : tie.Need-read-requires Inv-loop μ-loop
 read-requires c κs = search needs
 
-read-requires-2 : tie.Need-read-requires-2
-read-requires-2 c κs = search needs
+mul-table : tie.Need-mul-table Inv-loop μ-loop
+mul-table c = search needs
 
-read-requires-3 : tie.Need-read-requires-3
-read-requires-3 c κs = search needs
+array-set-from-table : tie.Need-array-set-from-table Inv-loop μ-loop
+array-set-from-table c = search needs
 
-read-requires-4 : tie.Need-read-requires-4
-read-requires-4 c κs = search needs
+add-k : tie.Need-add-k Inv-loop μ-loop
+add-k c = search needs
 
-read-requires-5 : tie.Need-read-requires-5
-read-requires-5 c κs = search needs
+loop-less : tie.Need-loop-less Inv-loop μ-loop
+loop-less c = search needs
 
-read-requires-6 : tie.Need-read-requires-6
-read-requires-6 c κs = search needs
+loop-again : tie.Need-loop-again Inv-loop μ-loop
+loop-again c =
+    let l = c .before .before .loop in
+    let lut = c .before .before .before .args .lut .now in (
+      filled-more (l .table) (l .k) (groupOf lut) (l .inv .0) _ (c .read .ensures) (omega arith),
+      omega arith,
+      simp length-set (l .inv .2),
+    )
 
-read-requires-7 : tie.Need-read-requires-7
-read-requires-7 c κs = search needs
-
-returns : tie.Need-returns
-returns c = simp (c .before .before .before .before .before .before .read .ensures, c .before .before .before .before .before .read2 .ensures, c .before .before .before .before .read3 .ensures, c .before .before .before .read4 .ensures, c .before .before .read5 .ensures, c .before .read6 .ensures, c .read7 .ensures)
+returns : tie.Need-returns Inv-loop μ-loop
+returns c =
+    let l = c .before .loop in
+    filled (l .table) (l .k) (groupOf (c .before .before .args .lut .now)) (l .inv .0) 7 (l .inv .2) (omega arith)
 
 pub decode-table-spec : {M : Type 1} → statement M
 decode-table-spec =
     tie.close
     (tie.spec
+    Inv-loop
+    μ-loop
+    loop-holds
     read-requires
-    read-requires-2
-    read-requires-3
-    read-requires-4
-    read-requires-5
-    read-requires-6
-    read-requires-7
+    mul-table
+    array-set-from-table
+    add-k
+    loop-less
+    loop-again
     returns)

@@ -38,12 +38,14 @@ returns c =
     let s = c .before .before .before .before .before .before .args in
     let k = c .before .before .before .before .least .ensures in
     let u : c .before .before .before .saturating-mul .result ≡ min (min (s .n) (s .p .left) * up z) top =
-    c .before .before .before .saturating-mul .ensures ∙ (λ i. min (k i * e i .up) top) ∙ product-twice top (min (s .n) (s .p .left)) (up z) in
+    c .before .before .before .saturating-mul .ensures ∙ (λ i. min (k i * e i .up) top)
+    ∙ product-twice top (min (s .n) (s .p .left)) (up z) in
     let d : c .before .before .saturating-mul2 .result ≡ min (min (s .n) (s .p .left) * dn z) top =
     c .before .before .saturating-mul2 .ensures ∙ (λ i. min (k i * e i .down) top) ∙ product-twice top (min (s .n) (s .p .left)) (dn z) in
     let run : c .then .result ≡ phaseOf (s .swing) (s .p) (s .n) z .run =
     c .then .ensures ∙ ap (thenOf (s .p .run)) (c .before .shift .ensures ∙ (λ i. shiftOf (u i) (d i) (s .swing))) in
-    subst⁻¹ (λ (q : Progress). Driven (s .swing) b q (xs ++ replicate (s .n) z)) (λ i. record { run = run i; left = s .p .left - k i }) (phase-extends (s .swing) (s .p) (s .n) z (omega arith) b xs g)
+    subst⁻¹ (λ (q : Progress). Driven (s .swing) b q (xs ++ replicate (s .n) z)) (λ i. record { run = run i; left = s .p .left - k i })
+    (phase-extends (s .swing) (s .p) (s .n) z (omega arith) b xs g)
 
 pub drive-phase-spec : {M : Type 1} → statement M
 drive-phase-spec =

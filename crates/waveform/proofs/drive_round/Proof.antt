@@ -17,7 +17,8 @@ use Rattle.waveform.proofs.drive_round.Tie as tie
 
 -- the drive and the frames of phase p
 abbrev driveAt : Supply → List ℕ → List ℕ → ℕ → ℤ
-driveAt supply codes vcom p = driveOf (supply .levels) (supply .«frame_ns») (supply .«positive_drives_black») (getD codes p 0) (getD vcom p 0)
+driveAt supply codes vcom p =
+    driveOf (supply .levels) (supply .«frame_ns») (supply .«positive_drives_black») (getD codes p 0) (getD vcom p 0)
 
 abbrev framesAt : Supply → List ℕ → List ℕ → List ℕ → ℕ → List ℤ
 framesAt supply codes vcom frames p = replicate (getD frames p 0) (driveAt supply codes vcom p)
@@ -59,11 +60,12 @@ loop-again : tie.Need-loop-again Inv-loop μ-loop
 loop-again c =
     let l = c .before .before .before .before .loop in
     let s = c .before .before .before .before .before .before .before .args in
-    let phase : Extends (s .swing) (l .q) (c .drive-phase .result) (framesAt (s .supply) (s .group .codes) (s .t3) (s .group .frames) (l .i)) =
-    subst (λ (n : ℕ). Extends (s .swing) (l .q) (c .drive-phase .result) (replicate n (driveAt (s .supply) (s .group .codes) (s .t3) (l .i)))) (c .before .before .wide .ensures .0)
-    (c .drive-phase .ensures (driveAt (s .supply) (s .group .codes) (s .t3) (l .i)) (c .before .frame-drive .ensures)) in (
-      rw (← in-turn-more (l .i) (framesAt (s .supply) (s .group .codes) (s .t3) (s .group .frames)))
-          (extends-more (s .swing) (s .p) (l .q) (c .drive-phase .result) (inTurn (l .i) (framesAt (s .supply) (s .group .codes) (s .t3) (s .group .frames))) _ (l .inv .0) phase),
+    let d = driveAt (s .supply) (s .group .codes) (s .t3) (l .i) in
+    let f : ℕ → List ℤ = framesAt (s .supply) (s .group .codes) (s .t3) (s .group .frames) in
+    let phase : Extends (s .swing) (l .q) (c .drive-phase .result) (f (l .i)) =
+    subst (λ (n : ℕ). Extends (s .swing) (l .q) (c .drive-phase .result) (replicate n d)) (c .before .before .wide .ensures .0)
+    (c .drive-phase .ensures d (c .before .frame-drive .ensures)) in (
+      rw (← in-turn-more (l .i) f) (extends-more (s .swing) (s .p) (l .q) (c .drive-phase .result) (inTurn (l .i) f) _ (l .inv .0) phase),
       omega arith,
     )
 
@@ -71,7 +73,8 @@ returns : tie.Need-returns Inv-loop μ-loop
 returns c =
     let l = c .before .loop in
     let s = c .before .before .before .before .args in
-    subst (λ (n : ℕ). Extends (s .swing) (s .p) (l .q) (inTurn n (framesAt (s .supply) (s .group .codes) (s .t3) (s .group .frames)))) {x = l .i} {y = 4} (omega arith) (l .inv .0)
+    let f : ℕ → List ℤ = framesAt (s .supply) (s .group .codes) (s .t3) (s .group .frames) in
+    subst (λ (n : ℕ). Extends (s .swing) (s .p) (l .q) (inTurn n f)) {x = l .i} {y = 4} (omega arith) (l .inv .0)
 
 pub drive-round-spec : {M : Type 1} → statement M
 drive-round-spec =

@@ -81,7 +81,8 @@ loop-again c =
     (λ i. framesOf (s .supply) (sym (running-get (s .t1) blank unread (l .k) (omega (arith, runs))) i) (c .before .vcom-codes .ensures i))
     (c .drive-group .ensures) in (
       rw (← in-turn-more (l .k) (framesAt (s .supply) (s .t1) (s .vcom)))
-          (extends-more (s .swing) q₀ (l .q) (c .drive-group .result) (inTurn (l .k) (framesAt (s .supply) (s .t1) (s .vcom))) _ (l .inv .0) group),
+          (extends-more (s .swing) q₀ (l .q) (c .drive-group .result) (inTurn (l .k) (framesAt (s .supply) (s .t1) (s .vcom))) _
+          (l .inv .0) group),
       omega arith,
     )
 
@@ -92,7 +93,8 @@ returns c =
     let start : Driven (s .swing) (s .n) (record { run = c .before .before .before .identity .result; left = s .n }) [] =
     rw (c .before .before .before .identity .ensures) (driven-start (s .swing) (s .n)) in
     let all : l .k ≡ length (running (s .t1)) = omega (arith, c .before .before .before .before .before .running-groups .ensures) in
-    subst (λ (k : ℕ). Acts (s .swing) (l .q .run) (take (s .n) (inTurn k (framesAt (s .supply) (s .t1) (s .vcom))))) all (l .inv .0 (s .n) [] start .acts)
+    subst (λ (k : ℕ). Acts (s .swing) (l .q .run) (take (s .n) (inTurn k (framesAt (s .supply) (s .t1) (s .vcom))))) all
+    (l .inv .0 (s .n) [] start .acts)
 
 pub drive-table-spec : {M : Type 1} → statement M
 drive-table-spec =

@@ -76,7 +76,8 @@ module _ (c : tie.After-energy2) where
       c .energy2 .ensures ∙ (λ i. min ((a i .below + b i .above - (a i .above + b i .below)) * start .args .supply .«frame_ns») top)
 
   abbrev drives : Bool → Drive
-  drives black = Drives (driveOf (start .args .supply .levels) (start .args .supply .«frame_ns») black (start .args .source) (start .args .vcom))
+  drives black =
+      Drives (driveOf (start .args .supply .levels) (start .args .supply .«frame_ns») black (start .args .source) (start .args .vcom))
 
 returns-2 : tie.Need-returns-2
 returns-2 c =

@@ -16,7 +16,10 @@ mul-result : tie.Need-mul-result
 mul-result c = record { fits = omega (arith, mul-le-mul (c .before .wide .ensures .1) (c .round-frames .ensures .1)) }
 
 returns : tie.Need-returns
-returns c = ((λ i. c .before .wide .ensures .0 i * c .round-frames .ensures .0 i), mul-le-mul (c .before .wide .ensures .1) (c .round-frames .ensures .1))
+returns c = (
+  (λ i. c .before .wide .ensures .0 i * c .round-frames .ensures .0 i),
+  mul-le-mul (c .before .wide .ensures .1) (c .round-frames .ensures .1),
+)
 
 pub group-frames-spec : {M : Type 1} → statement M
 group-frames-spec = tie.close (tie.spec wide-requires round-frames-requires mul-result returns)

@@ -1,58 +1,60 @@
--- `waveform::round_frames` meets its contract: a sum of four bytes.
-use borrow.Author.Needs.{needs}
+-- `waveform::round_frames` meets its contract. The loop's invariant: the sum of the counts passed, each at most 255.
+use mathlib.Core.Path.{_≡_, ap, _∙_}
+use Prim.Native.Nat.{ℕ, _-_, _*_, _≤_}
+use native.Mathlib.Numerals.{add-one}
 use native.Mathlib.Omega.{arith}
+use lib.ListN.{getD}
+use Rattle.base.specs.Listed.{sumTo}
+use borrow.Author.Needs.{needs}
 use Rattle.waveform.proofs.round_frames.Statement.{statement}
 use Rattle.waveform.proofs.round_frames.Tie as tie
 
-array-read-wide : tie.Need-array-read-wide
+abbrev Inv-loop : tie.InvT-loop
+Inv-loop frames sum₀ phase₀ sum phase = (sum ≡ sumTo phase (λ p. getD frames p 0)) × (phase ≤ 4) × (sum ≤ 255 * phase)
+
+abbrev μ-loop : tie.MeasureT-loop
+μ-loop frames sum₀ phase₀ sum phase = 4 - phase
+
+loop-holds : tie.Need-loop-holds Inv-loop μ-loop
+loop-holds c = search needs
+
+array-read-wide : tie.Need-array-read-wide Inv-loop μ-loop
 array-read-wide c = search needs
 
-wide-requires : tie.Need-wide-requires
+wide-requires : tie.Need-wide-requires Inv-loop μ-loop
 wide-requires c κs = search needs
 
-array-read-wide-2 : tie.Need-array-read-wide-2
-array-read-wide-2 c = search needs
+add-sum : tie.Need-add-sum Inv-loop μ-loop
+add-sum c = search needs
 
-wide-requires-2 : tie.Need-wide-requires-2
-wide-requires-2 c κs = search needs
+add-phase : tie.Need-add-phase Inv-loop μ-loop
+add-phase c = search needs
 
-array-read-wide-3 : tie.Need-array-read-wide-3
-array-read-wide-3 c = search needs
+loop-less : tie.Need-loop-less Inv-loop μ-loop
+loop-less c = search needs
 
-wide-requires-3 : tie.Need-wide-requires-3
-wide-requires-3 c κs = search needs
+loop-again : tie.Need-loop-again Inv-loop μ-loop
+loop-again c =
+    let l = c .before .before .loop in
+    (rw (add-one (l .phase)) (omega arith), omega arith, omega arith)
 
-array-read-wide-4 : tie.Need-array-read-wide-4
-array-read-wide-4 c = search needs
-
-wide-requires-4 : tie.Need-wide-requires-4
-wide-requires-4 c κs = search needs
-
-add-result : tie.Need-add-result
-add-result c = search needs
-
-add-result-2 : tie.Need-add-result-2
-add-result-2 c = search needs
-
-add-result-3 : tie.Need-add-result-3
-add-result-3 c = search needs
-
-returns : tie.Need-returns
-returns c = (omega arith, omega arith)
+returns : tie.Need-returns Inv-loop μ-loop
+returns c =
+    let l = c .before .loop in
+    let all : l .phase ≡ 4 = omega arith in
+    (l .inv .0 ∙ ap (λ (n : ℕ). sumTo n (λ p. getD (c .before .before .before .args .group .frames) p 0)) all, omega arith)
 
 pub round-frames-spec : {M : Type 1} → statement M
 round-frames-spec =
     tie.close
     (tie.spec
+    Inv-loop
+    μ-loop
+    loop-holds
     array-read-wide
     wide-requires
-    array-read-wide-2
-    wide-requires-2
-    array-read-wide-3
-    wide-requires-3
-    array-read-wide-4
-    wide-requires-4
-    add-result
-    add-result-2
-    add-result-3
+    add-sum
+    add-phase
+    loop-less
+    loop-again
     returns)

@@ -42,8 +42,14 @@ loop-less c = search needs
 loop-again : tie.Need-loop-again Inv-loop μ-loop
 loop-again c =
     let l = c .before .before .before .before .loop in
-    let t = c .before .before .before .before .before .args .t1 in
-    (omega (arith, l .inv .0, ap length (running-goes t (l .k) unread (search needs) (sym (c .before .ends-table .ensures) ∙ c .if1 .left))), search needs)
+    let t = c .before .before .before .before .before .args .t1 in (
+      omega (
+        arith,
+        l .inv .0,
+        ap length (running-goes t (l .k) unread (search needs) (sym (c .before .ends-table .ensures) ∙ c .if1 .left)),
+      ),
+      search needs,
+    )
 
 returns-2 : tie.Need-returns-2 Inv-loop μ-loop
 returns-2 c =

@@ -30,8 +30,14 @@ ends-table-requires c κs = search needs
 returns : tie.Need-returns Inv-loop μ-loop
 returns c =
     let l = c .before .before .before .before .loop in
-    let t = c .before .before .before .before .before .args .t1 in
-    (omega (arith, l .inv .0, ap countOf (running-ends t (l .k) unread (search needs) (sym (c .before .ends-table .ensures) ∙ c .if1 .taken))), omega arith)
+    let t = c .before .before .before .before .before .args .t1 in (
+      omega (
+        arith,
+        l .inv .0,
+        ap countOf (running-ends t (l .k) unread (search needs) (sym (c .before .ends-table .ensures) ∙ c .if1 .taken)),
+      ),
+      omega arith,
+    )
 
 mul-group-frames : tie.Need-mul-group-frames Inv-loop μ-loop
 mul-group-frames c = search needs
@@ -55,8 +61,12 @@ loop-again : tie.Need-loop-again Inv-loop μ-loop
 loop-again c =
     let l = c .before .before .before .before .before .before .loop in
     let t = c .before .before .before .before .before .before .before .args .t1 in
-    let more = running-goes t (l .k) unread (search needs) (sym (c .before .before .before .ends-table .ensures) ∙ c .before .before .if1 .left) in
-    (omega (arith, l .inv .0, c .group-frames .ensures .0, ap countOf more), search needs, omega (arith, l .inv .2, c .group-frames .ensures .1))
+    let more =
+    running-goes t (l .k) unread (search needs) (sym (c .before .before .before .ends-table .ensures) ∙ c .before .before .if1 .left) in (
+      omega (arith, l .inv .0, c .group-frames .ensures .0, ap countOf more),
+      search needs,
+      omega (arith, l .inv .2, c .group-frames .ensures .1),
+    )
 
 returns-2 : tie.Need-returns-2 Inv-loop μ-loop
 returns-2 c =

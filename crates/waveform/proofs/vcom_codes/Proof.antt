@@ -27,10 +27,13 @@ array-copy-out-g c = few (c .before) (c .if1 .taken)
 returns : tie.Need-returns
 returns c =
     let s = c .before .before .before in
-    ap (λ (g : Group). g .codes) (sym (running-get (s .args .t1) blank unread (s .args .group) (omega (arith, s .pre, c .before .before .if1 .taken))))
+    ap (λ (g : Group). g .codes)
+    (sym (running-get (s .args .t1) blank unread (s .args .group) (omega (arith, s .pre, c .before .before .if1 .taken))))
 
 returns-2 : tie.Need-returns-2
-returns-2 c = ap (λ (g : Group). g .codes) (sym (getD-past (running (c .before .args .t1)) (c .before .args .group) blank (omega (arith, c .before .pre, c .if1 .left))))
+returns-2 c =
+    ap (λ (g : Group). g .codes)
+    (sym (getD-past (running (c .before .args .t1)) (c .before .args .group) blank (omega (arith, c .before .pre, c .if1 .left))))
 
 pub vcom-codes-spec : {M : Type 1} → statement M
 vcom-codes-spec = tie.close (tie.spec mul-g array-copy-out-g returns returns-2)

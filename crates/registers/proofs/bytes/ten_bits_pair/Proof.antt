@@ -31,7 +31,13 @@ returns-3 c = simp (c .high2 .ensures, c .before .match .keys3)
 
 returns-4 : tie.Need-returns-4
 unfolding tenBits
-returns-4 c = simp (c .low .ensures, ne-eqb _ _ (c .before .match .rest .0 .0 .1), ne-eqb _ _ (c .before .match .rest .0 .1), ne-eqb _ _ (c .before .match .rest .1))
+returns-4 c =
+    simp (
+      c .low .ensures,
+      ne-eqb _ _ (c .before .match .rest .0 .0 .1),
+      ne-eqb _ _ (c .before .match .rest .0 .1),
+      ne-eqb _ _ (c .before .match .rest .1),
+    )
 
 pub ten-bits-pair-spec : {M : Type 1} → statement M
 ten-bits-pair-spec =

@@ -22,7 +22,12 @@ supply-millivolts-requires-3 : tie.Need-supply-millivolts-requires-3
 supply-millivolts-requires-3 c κs = search needs
 
 returns : tie.Need-returns
-returns c = λ i. record { vdh = c .before .before .supply-millivolts .ensures i; vdl = c .before .supply-millivolts2 .ensures i; vdhr = c .supply-millivolts3 .ensures i }
+returns c =
+    λ i. record {
+      vdh = c .before .before .supply-millivolts .ensures i;
+      vdl = c .before .supply-millivolts2 .ensures i;
+      vdhr = c .supply-millivolts3 .ensures i;
+    }
 
 pub from-power-setting-spec : {M : Type 1} → statement M
 from-power-setting-spec =

@@ -1,90 +1,85 @@
--- `waveform::Waveform::duration_ns` meets its contract: the longest of five, and the tail, held.
-use borrow.Author.Needs.{needs}
+-- `waveform::Waveform::duration_ns` meets its contract. The loop's invariant: the longest table passed and those to come give the longest.
 use mathlib.Core.Path.{_≡_, ap, _∙_}
-use Prim.Native.Nat.{ℕ, _+_, _-_, _*_}
-use Prim.Native.Nat.{min, max}
+use Prim.Native.Nat.{ℕ, _+_, _-_, _*_, _≤_, min, max}
+use native.Mathlib.Omega.{arith}
+use lib.ListN.{length, drop}
 use Rattle.base.specs.Word.{top}
+use Rattle.base.proofs.Lists.{length-mapped}
 use Rattle.waveform.specs.Tables.{longest}
+use Rattle.waveform.proofs.TableLaws.{longest-more, longest-done}
+use borrow.Author.Needs.{needs}
 use Rattle.waveform.proofs.Waveform.duration_ns.Statement.{statement}
 use Rattle.waveform.proofs.Waveform.duration_ns.Tie as tie
 
-element-copy-out-t0 : tie.Need-element-copy-out-t0
-element-copy-out-t0 c = search needs
+abbrev Inv-loop : tie.InvT-loop
+Inv-loop self tables frames₀ k₀ frames k =
+    (max frames (longest (drop k tables)) ≡ longest tables) × (k ≤ 5) × (frames ≤ 1820700) × (length tables ≡ 5)
 
-element-copy-out-t1 : tie.Need-element-copy-out-t1
-element-copy-out-t1 c = search needs
+abbrev μ-loop : tie.MeasureT-loop
+μ-loop self tables frames₀ k₀ frames k = 5 - k
 
-element-copy-out-t2 : tie.Need-element-copy-out-t2
-element-copy-out-t2 c = search needs
+tables-requires : tie.Need-tables-requires Inv-loop μ-loop
+tables-requires c κs = search needs
 
-element-copy-out-t3 : tie.Need-element-copy-out-t3
-element-copy-out-t3 c = search needs
+loop-holds : tie.Need-loop-holds Inv-loop μ-loop
+loop-holds c =
+    let five : length (c .before .args .self .tables) ≡ 5 = search (needs, length-mapped) in
+    (search needs, search needs, search needs, ap length (c .tables .ensures) ∙ five)
 
-element-copy-out-t4 : tie.Need-element-copy-out-t4
-element-copy-out-t4 c = search needs
+mul-table-frames : tie.Need-mul-table-frames Inv-loop μ-loop
+mul-table-frames c = search needs
 
-frames-in-requires : tie.Need-frames-in-requires
-frames-in-requires c κs = search needs
+array-copy-out-table-frames : tie.Need-array-copy-out-table-frames Inv-loop μ-loop
+array-copy-out-table-frames c = search needs
 
-frames-in-requires-2 : tie.Need-frames-in-requires-2
-frames-in-requires-2 c κs = search needs
+table-frames-requires : tie.Need-table-frames-requires Inv-loop μ-loop
+table-frames-requires c κs = search needs
 
-greatest-requires : tie.Need-greatest-requires
+greatest-requires : tie.Need-greatest-requires Inv-loop μ-loop
 greatest-requires c κs = search needs
 
-frames-in-requires-3 : tie.Need-frames-in-requires-3
-frames-in-requires-3 c κs = search needs
+add-k : tie.Need-add-k Inv-loop μ-loop
+add-k c = search needs
 
-greatest-requires-2 : tie.Need-greatest-requires-2
-greatest-requires-2 c κs = search needs
+loop-less : tie.Need-loop-less Inv-loop μ-loop
+loop-less c = search needs
 
-frames-in-requires-4 : tie.Need-frames-in-requires-4
-frames-in-requires-4 c κs = search needs
+loop-again : tie.Need-loop-again Inv-loop μ-loop
+loop-again c =
+    let l = c .before .before .before .before .loop in
+    let ts = c .before .before .before .before .before .tables .result in
+    let more = longest-more ts (l .k) (omega arith) in
+    (omega (arith, l .inv .0, more, c .greatest .ensures, c .before .table-frames .ensures .0), omega arith, omega arith, l .inv .3)
 
-greatest-requires-3 : tie.Need-greatest-requires-3
-greatest-requires-3 c κs = search needs
-
-frames-in-requires-5 : tie.Need-frames-in-requires-5
-frames-in-requires-5 c κs = search needs
-
-greatest-requires-4 : tie.Need-greatest-requires-4
-greatest-requires-4 c κs = search needs
-
-add-saturating-mul : tie.Need-add-saturating-mul
+add-saturating-mul : tie.Need-add-saturating-mul Inv-loop μ-loop
 add-saturating-mul c = search needs
 
-saturating-mul-requires : tie.Need-saturating-mul-requires
+saturating-mul-requires : tie.Need-saturating-mul-requires Inv-loop μ-loop
 saturating-mul-requires c κs = search needs
 
-returns : tie.Need-returns
+returns : tie.Need-returns Inv-loop μ-loop
 returns c =
-    let s = c .before .before .before .before .before .before .before .before .before .before .before .before .before .before .before in
-    let most : c .before .greatest4 .result ≡ longest (s .args .t1) =
-    c .before .greatest4 .ensures
-    ∙ (λ i. max (c .before .before .frames-in5 .ensures .0 i)
-    ((c .before .before .before .greatest3 .ensures ∙ (λ j. max (c .before .before .before .before .frames-in4 .ensures .0 j)
-    ((c .before .before .before .before .before .greatest2 .ensures ∙ (λ k. max (c .before .before .before .before .before .before .frames-in3 .ensures .0 k)
-    ((c .before .before .before .before .before .before .before .greatest .ensures ∙ (λ m. max (c .before .before .before .before .before .before .before .before .before .frames-in .ensures .0 m) (c .before .before .before .before .before .before .before .before .frames-in2 .ensures .0 m))) k))) j))) i)) in
-    c .saturating-mul .ensures ∙ ap (λ (n : ℕ). min ((n + 2) * s .args .t1 .«frame_ns») top) most
+    let l = c .before .before .loop in
+    let s = c .before .before .before in
+    let all : l .frames ≡ longest (s .tables .result) = omega (arith, l .inv .0, longest-done (s .tables .result) (l .k) (omega arith)) in
+    c .saturating-mul .ensures
+    ∙ ap (λ (n : ℕ). min ((n + 2) * s .before .args .self .«frame_ns») top) (all ∙ ap longest (s .tables .ensures))
 
 pub duration-ns-spec : {M : Type 1} → statement M
 duration-ns-spec =
     tie.close
     (tie.spec
-    element-copy-out-t0
-    element-copy-out-t1
-    element-copy-out-t2
-    element-copy-out-t3
-    element-copy-out-t4
-    frames-in-requires
-    frames-in-requires-2
+    Inv-loop
+    μ-loop
+    tables-requires
+    loop-holds
+    mul-table-frames
+    array-copy-out-table-frames
+    table-frames-requires
     greatest-requires
-    frames-in-requires-3
-    greatest-requires-2
-    frames-in-requires-4
-    greatest-requires-3
-    frames-in-requires-5
-    greatest-requires-4
+    add-k
+    loop-less
+    loop-again
     add-saturating-mul
     saturating-mul-requires
     returns)

@@ -1,12 +1,15 @@
 -- `registers::luts::Luts::reset` meets its contract: five tables of zeros.
-use mathlib.Core.Path.{refl}
 use Rattle.registers.specs.Luts.{resetLuts}
+use borrow.Author.Needs.{needs}
 use Rattle.registers.proofs.luts.Luts.reset.Statement.{statement}
 use Rattle.registers.proofs.luts.Luts.reset.Tie as tie
 
+of-requires : tie.Need-of-requires
+of-requires c κs = search needs
+
 returns : tie.Need-returns
 unfolding resetLuts
-returns c = refl
+returns c = search needs
 
 pub reset-spec : {M : Type 1} → statement M
-reset-spec = tie.close (tie.spec returns)
+reset-spec = tie.close (tie.spec of-requires returns)
