@@ -1,4 +1,5 @@
--- A refresh's start and its end leave a sound record sound: its numbers are table numbers, its period is not 0, its levels are at most 15,000, and the states stay in 0 .. full swing.
+-- A refresh's start and its end leave a sound record sound: its numbers are table numbers, its period is not 0,
+-- its levels are at most 15,000, and the states stay in 0 .. full swing.
 use mathlib.Core.Path.{_≡_, refl, sym, subst, _∙_}
 use mathlib.Core.Bool.{Bool, true, false, _&&_}
 use mathlib.Core.List.{List}
@@ -37,11 +38,14 @@ use Rattle.pixels.proofs.DrawLaws.{drawn-length}
 use Rattle.controller.specs.declared.Refresh.{Refresh}
 use Rattle.controller.specs.declared.notes.Note.{Note}
 use Rattle.controller.specs.declared.notes.Note.the-variants.{Quiet, Told}
-use Rattle.controller.specs.World.{World, world, withStates}
+use Rattle.controller.specs.World.{World, world}
+use Rattle.controller.specs.Setters.{withStates}
 use Rattle.controller.specs.TurnedBack.{badLevels}
-use Rattle.controller.specs.Refresh.{refreshNote, waveformNow, numbersNow, refreshing, refreshStarted, refreshedBy, refreshed, walked, published, finished, allFrames, elapsed, copiedAfter, endedRefresh, cutRefresh}
+use Rattle.controller.specs.Refresh.{refreshNote, waveformNow, numbersNow, refreshing, refreshStarted, refreshedBy, refreshed}
+use Rattle.controller.specs.Refresh.{walked, published, finished, allFrames, elapsed, copiedAfter, endedRefresh, cutRefresh}
 use Rattle.controller.specs.Sound.{Sound}
-use Rattle.controller.proofs.Parts.{lent-lengths, fitting, sound-image, sound-old, sound-states, sound-picture, sound-tell, good-area}
+use Rattle.controller.proofs.Parts.{lent-lengths, fitting, sound-image, sound-old}
+use Rattle.controller.proofs.Parts.{sound-states, sound-picture, sound-tell, good-area}
 
 -- ---- the states stay in range
 module _ (swing : ℕ) (frames : ℕ → List ℤ) (numbers : List ℕ) (states : List ℤ) where
@@ -52,20 +56,28 @@ module _ (swing : ℕ) (frames : ℕ → List ℤ) (numbers : List ℕ) (states 
   unfolding walked
   walked-length = beside-length stepped numbers states
 
-  walked-at : everyState swing states ≡ true → (i : ℕ) → i < length states → InRange swing (getD (walked swing frames numbers states) i (pos 0))
+  walked-at : everyState swing states ≡ true → (i : ℕ) → i < length states
+      → InRange swing (getD (walked swing frames numbers states) i (pos 0))
   unfolding walked
   walked-at e i h = elim (decLe (length numbers) i) [
     | yes k ↦ subst (λ (z : ℤ). InRange swing z) (sym (beside-past stepped i numbers states (pos 0) k)) (states-in-range swing states e i h)
     | no k ↦
         subst (λ (z : ℤ). InRange swing z) (sym (beside-at stepped i numbers states 255 (pos 0) (omega arith) h))
-        (record { is = refl; within = walk-within swing (up (getD states i (pos 0))) (framesFor frames (getD numbers i 255)) (states-in-range swing states e i h .within) })
+        (record {
+          is = refl;
+          within =
+              walk-within swing (up (getD states i (pos 0))) (framesFor frames (getD numbers i 255))
+              (states-in-range swing states e i h .within);
+        })
   ]
 
   pub walked-states : everyState swing states ≡ true → everyState swing (walked swing frames numbers states) ≡ true
-  walked-states e = in-range-states swing (walked swing frames numbers states) (λ i h. walked-at e i (subst (λ (n : ℕ). i < n) walked-length h))
+  walked-states e =
+      in-range-states swing (walked swing frames numbers states) (λ i h. walked-at e i (subst (λ (n : ℕ). i < n) walked-length h))
 
 -- ---- a refresh's end
-pub sound-finished : (frames : ℕ → List ℤ) (k : RefreshKind) (interrupted : Bool) (at : ℕ) (w : World) → Sound w → Sound (finished frames k interrupted at w)
+pub sound-finished : (frames : ℕ → List ℤ) (k : RefreshKind) (interrupted : Bool) (at : ℕ) (w : World) → Sound w
+    → Sound (finished frames k interrupted at w)
 unfolding finished
 sound-finished frames k interrupted at w s =
     let swing = w .chip .config .optics .«full_swing» in
@@ -73,7 +85,8 @@ sound-finished frames k interrupted at w s =
     let v : World = world (w .chip) (withStates states (w .lent)) in
     sound-image (published k interrupted at (w .chip)) _
     (sound-picture (drawn swing states (w .lent .picture)) v (drawn-length swing states (w .lent .picture))
-    (sound-states states w (walked-length swing frames (w .lent .numbers) (w .lent .states)) (walked-states swing frames (w .lent .numbers) (w .lent .states) (s .states)) s))
+    (sound-states states w (walked-length swing frames (w .lent .numbers) (w .lent .states))
+    (walked-states swing frames (w .lent .numbers) (w .lent .states) (s .states)) s))
 
 sound-copied : (r : Refresh) (w : World) → Sound w → Sound (copiedAfter r w)
 unfolding copiedAfter
@@ -112,9 +125,11 @@ number-known q old new x y =
     (table-known (eqb (bitAt old c r) (q .white)) (eqb (bitAt new c r) (q .white)))
     (record { ok = undriven-number })
 
-numbers-length : (w : World) → Sound w → length (numbersNow (w .chip) (w .lent)) ≡ w .chip .config .panel .sources * w .chip .config .panel .gates
+numbers-length : (w : World) → Sound w
+    → length (numbersNow (w .chip) (w .lent)) ≡ w .chip .config .panel .sources * w .chip .config .panel .gates
 unfolding numbersNow
-numbers-length w s = length-rows _ (w .chip .config .panel .sources) (w .chip .config .panel .gates) (w .lent .numbers) ∙ lent-lengths w s .numbers
+numbers-length w s =
+    length-rows _ (w .chip .config .panel .sources) (w .chip .config .panel .gates) (w .lent .numbers) ∙ lent-lengths w s .numbers
 
 -- the number of each pixel, row by row
 pub noted : (w : World) → Sound w → (p : ℕ) → p < w .chip .config .panel .sources * w .chip .config .panel .gates
@@ -137,7 +152,8 @@ numbers-known w s =
     (λ i h.
     let n = w .chip .config .panel .sources in
     subst (λ (k : ℕ). isNumber k ≡ true) (sym (noted w s i (subst (λ (k : ℕ). i < k) (numbers-length w s) h)))
-    (number-known (pixelsOf (w .chip .config .panel) (w .chip .regs) (w .chip .config .variant)) (w .lent .old) (w .lent .new) (i % n) (i / n) .ok))
+    (number-known (pixelsOf (w .chip .config .panel) (w .chip .regs) (w .chip .config .variant))
+    (w .lent .old) (w .lent .new) (i % n) (i / n) .ok))
 
 -- the levels of 01 and the period of 30
 level-most : (code : ℕ) → 2400 + 200 * (code % 64) ≤ 15000
@@ -166,7 +182,11 @@ sound-refresh-started w s =
       regs = s .regs;
       stage = s .stage;
       work =
-          rw (good-area (writtenOf (w .chip .regs)) (written-in-range (w .chip .regs) (s .regs)), some-period w s, good-levels (w .chip .regs .power));
+          rw (
+            good-area (writtenOf (w .chip .regs)) (written-in-range (w .chip .regs) (s .regs)),
+            some-period w s,
+            good-levels (w .chip .regs .power),
+          );
       stored = s .stored;
       fits =
           fitting (w .chip .config) (refreshStarted w .lent)

@@ -1,4 +1,5 @@
--- A sound record with one part changed is sound: the registers, the command under way, what runs, a diagnostic, and each of the lent buffers.
+-- A sound record with one part changed is sound: the registers, the command under way, what runs,
+-- a diagnostic, and each of the lent buffers.
 use mathlib.Core.Path.{_≡_, refl, sym, ap, _∙_}
 use mathlib.Core.Bool.{true, false, true≢false, false≢true}
 use mathlib.Core.List.{List}
@@ -31,11 +32,15 @@ use Rattle.controller.specs.declared.Work.the-variants as work
 use Rattle.controller.specs.declared.Active.{Active}
 use Rattle.controller.specs.declared.Current.{Current}
 use Rattle.controller.specs.declared.Current.the-variants as current
+use Rattle.controller.specs.declared.Stage.{Stage}
 use Rattle.controller.specs.declared.Operation.{Operation}
 use Rattle.controller.specs.declared.notes.Note.{Note}
 use Rattle.controller.specs.declared.notes.Note.the-variants.{Quiet, Told}
-use Rattle.controller.specs.World.{World, Buffers, buffers, world, onChip, withRegs, withLuts, withMode, withCurrent, withOperation, withImage, withLog, withNow, withOld, withNew, withStates, withPicture, withRows, tell, told}
-use Rattle.controller.specs.TurnedBack.{badArea, badCurrent, badWork, lengthsFit, lentFits, refreshRuns}
+use Rattle.controller.specs.World.{World, Buffers, buffers, world, onChip}
+use Rattle.controller.specs.Setters.{recordOf, withRegs, withLuts, withMode, withCurrent, withOperation, withImage}
+use Rattle.controller.specs.Setters.{withLog, withNow, withOld, withNew, withStates, withPicture, withRows}
+use Rattle.controller.specs.Tell.{tell, told}
+use Rattle.controller.specs.TurnedBack.{badArea, badCurrent, badStage, badWork, lengthsFit, lentFits, refreshRuns}
 use Rattle.controller.specs.Sound.{Sound}
 
 -- ---- the lengths of what is lent
@@ -79,27 +84,41 @@ fitting c b l =
 pub lent-lengths : (w : World) → Sound w → Lengths (w .chip .config) (w .lent)
 lent-lengths w s = lengths (w .chip .config) (w .lent) (s .fits)
 
--- ---- the record alone
+-- ---- the record alone: its registers, its command under way and the rows stored in range, the rest of it that may change as it likes
+sound-with : (r : Registers) (l : Luts) (m : Mode) (c : Stage) (i : PanelImage) (g : Log) (t : ℕ) (w : World)
+    → InRange r → badStage c ≡ false → g .stored ≤ 1024 → Sound w
+    → Sound (world (recordOf (w .chip .config) r l m c (w .chip .operation) (w .chip .waveform) i g t) (w .lent))
+sound-with r l m c i g t w regs stage stored s = record {
+  config = s .config;
+  regs = regs;
+  stage = stage;
+  work = s .work;
+  stored = stored;
+  fits = s .fits;
+  states = s .states;
+  numbers = s .numbers;
+}
+
 pub sound-regs : (r : Registers) (w : World) → InRange r → Sound w → Sound (onChip (withRegs r) w)
-sound-regs r w q s = record { config = s .config; regs = q; stage = s .stage; work = s .work; stored = s .stored; fits = s .fits; states = s .states; numbers = s .numbers }
+sound-regs r w q s = sound-with r _ _ _ _ _ _ w q (s .stage) (s .stored) s
 
 pub sound-luts : (l : Luts) (w : World) → Sound w → Sound (onChip (withLuts l) w)
-sound-luts l w s = record { config = s .config; regs = s .regs; stage = s .stage; work = s .work; stored = s .stored; fits = s .fits; states = s .states; numbers = s .numbers }
+sound-luts l w s = sound-with _ l _ _ _ _ _ w (s .regs) (s .stage) (s .stored) s
 
 pub sound-mode : (m : Mode) (w : World) → Sound w → Sound (onChip (withMode m) w)
-sound-mode m w s = record { config = s .config; regs = s .regs; stage = s .stage; work = s .work; stored = s .stored; fits = s .fits; states = s .states; numbers = s .numbers }
+sound-mode m w s = sound-with _ _ m _ _ _ _ w (s .regs) (s .stage) (s .stored) s
 
 pub sound-current : (c : Current) (w : World) → badCurrent c ≡ false → Sound w → Sound (onChip (withCurrent c) w)
-sound-current c w q s = record { config = s .config; regs = s .regs; stage = q; work = s .work; stored = s .stored; fits = s .fits; states = s .states; numbers = s .numbers }
+sound-current c w q s = sound-with _ _ _ (record { current = c }) _ _ _ w (s .regs) q (s .stored) s
 
 pub sound-image : (i : PanelImage) (w : World) → Sound w → Sound (onChip (withImage i) w)
-sound-image i w s = record { config = s .config; regs = s .regs; stage = s .stage; work = s .work; stored = s .stored; fits = s .fits; states = s .states; numbers = s .numbers }
+sound-image i w s = sound-with _ _ _ _ i _ _ w (s .regs) (s .stage) (s .stored) s
 
 pub sound-log : (g : Log) (w : World) → g .stored ≤ 1024 → Sound w → Sound (onChip (withLog g) w)
-sound-log g w q s = record { config = s .config; regs = s .regs; stage = s .stage; work = s .work; stored = q; fits = s .fits; states = s .states; numbers = s .numbers }
+sound-log g w q s = sound-with _ _ _ _ _ g _ w (s .regs) (s .stage) q s
 
 pub sound-now : (t : ℕ) (w : World) → Sound w → Sound (onChip (withNow t) w)
-sound-now t w s = record { config = s .config; regs = s .regs; stage = s .stage; work = s .work; stored = s .stored; fits = s .fits; states = s .states; numbers = s .numbers }
+sound-now t w s = sound-with _ _ _ _ _ _ t w (s .regs) (s .stage) (s .stored) s
 
 -- only a refresh that runs has anything to be foreign
 quiet-work : (x : Work) (n : ℕ) (l : Levels) → refreshRuns x ≡ false → badWork x n l ≡ false
@@ -128,7 +147,8 @@ sound-operation o w q s =
 sound-lent : (old new : List ℕ) (states : List ℤ) (picture rows : List ℕ) (w : World)
     → length old ≡ length (w .lent .old) → length new ≡ length (w .lent .new) → length states ≡ length (w .lent .states)
     → length picture ≡ length (w .lent .picture) → length rows ≡ length (w .lent .rows)
-    → everyState (w .chip .config .optics .«full_swing») states ≡ true → Sound w → Sound (world (w .chip) (buffers old new states (w .lent .numbers) picture rows))
+    → everyState (w .chip .config .optics .«full_swing») states ≡ true → Sound w
+    → Sound (world (w .chip) (buffers old new states (w .lent .numbers) picture rows))
 sound-lent old new states picture rows w o n t p r q s =
     let k = lent-lengths w s in
     record {
@@ -139,7 +159,14 @@ sound-lent old new states picture rows w o n t p r q s =
       stored = s .stored;
       fits =
           fitting (w .chip .config) (buffers old new states (w .lent .numbers) picture rows)
-          (record { old = o ∙ k .old; new = n ∙ k .new; states = t ∙ k .states; numbers = k .numbers; picture = p ∙ k .picture; rows = r ∙ k .rows });
+          (record {
+            old = o ∙ k .old;
+            new = n ∙ k .new;
+            states = t ∙ k .states;
+            numbers = k .numbers;
+            picture = p ∙ k .picture;
+            rows = r ∙ k .rows;
+          });
       states = q;
       numbers = s .numbers;
     }
@@ -150,11 +177,13 @@ sound-old l w q s = sound-lent l (w .lent .new) (w .lent .states) (w .lent .pict
 pub sound-new : (l : List ℕ) (w : World) → length l ≡ length (w .lent .new) → Sound w → Sound (world (w .chip) (withNew l (w .lent)))
 sound-new l w q s = sound-lent (w .lent .old) l (w .lent .states) (w .lent .picture) (w .lent .rows) w refl q refl refl refl (s .states) s
 
-pub sound-states : (l : List ℤ) (w : World) → length l ≡ length (w .lent .states) → everyState (w .chip .config .optics .«full_swing») l ≡ true → Sound w
+pub sound-states : (l : List ℤ) (w : World) → length l ≡ length (w .lent .states)
+    → everyState (w .chip .config .optics .«full_swing») l ≡ true → Sound w
     → Sound (world (w .chip) (withStates l (w .lent)))
 sound-states l w q r s = sound-lent (w .lent .old) (w .lent .new) l (w .lent .picture) (w .lent .rows) w refl refl q refl refl r s
 
-pub sound-picture : (l : List ℕ) (w : World) → length l ≡ length (w .lent .picture) → Sound w → Sound (world (w .chip) (withPicture l (w .lent)))
+pub sound-picture : (l : List ℕ) (w : World) → length l ≡ length (w .lent .picture) → Sound w
+    → Sound (world (w .chip) (withPicture l (w .lent)))
 sound-picture l w q s = sound-lent (w .lent .old) (w .lent .new) (w .lent .states) l (w .lent .rows) w refl refl refl q refl (s .states) s
 
 pub sound-rows : (l : List ℕ) (w : World) → length l ≡ length (w .lent .rows) → Sound w → Sound (world (w .chip) (withRows l (w .lent)))
@@ -181,7 +210,8 @@ sound-told (Told d) w s = sound-tell d w s
 -- ---- an area and a cursor in range
 pub good-area : (a : Area) → InRam a → badArea a ≡ false
 unfolding badArea
-good-area a r = rw (le-ltb 799 (a .x0) (r .x0-most), le-ltb 599 (a .y0) (r .y0-most), le-ltb 799 (a .x1) (r .x1-most), le-ltb 599 (a .y1) (r .y1-most))
+good-area a r =
+    rw (le-ltb 799 (a .x0) (r .x0-most), le-ltb 599 (a .y0) (r .y0-most), le-ltb 799 (a .x1) (r .x1-most), le-ltb 599 (a .y1) (r .y1-most))
 
 pub record Stands (c : Cursor) : Type 0 where
   pub column : c .x ≤ 799

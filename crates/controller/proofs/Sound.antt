@@ -24,7 +24,8 @@ use Rattle.ram.proofs.WriteLaws.{length-written}
 use Rattle.command.specs.declared.kinds.Kind.{Kind}
 use Rattle.command.specs.declared.kinds.Kind.the-variants as kind
 use Rattle.command.specs.Kinds.{kindOf}
-use Rattle.diagnostic.specs.declared.DiagnosticKind.the-variants.{UnknownCommand, UnsupportedCommand, DataWithoutCommand, ExtraData, WrongCheckCode, PastTheWindow, NothingToRead, ResetDuringRefresh}
+use Rattle.diagnostic.specs.declared.DiagnosticKind.the-variants.{UnknownCommand, UnsupportedCommand, DataWithoutCommand, ExtraData}
+use Rattle.diagnostic.specs.declared.DiagnosticKind.the-variants.{WrongCheckCode, PastTheWindow, NothingToRead, ResetDuringRefresh}
 use Rattle.glass.specs.Gray.{levelOf}
 use Rattle.log.specs.Log.{takenOf}
 use Rattle.pixels.proofs.StateLaws.{states-replicate, level-within}
@@ -43,14 +44,19 @@ use Rattle.controller.specs.declared.reads.Read.{Read}
 use Rattle.controller.specs.declared.reads.Read.the-variants.{Byte, Nothing}
 use Rattle.controller.specs.World.{World, Buffers, world, onChip}
 use Rattle.controller.specs.Arrives.{timed, rest, endedBy, ended, arrived}
-use Rattle.controller.specs.Command.{closingNote, ignoring, closedBy, closed, barredNote, begun, withPartial, executed, sortedBy, passedBy, passed, commandByte}
-use Rattle.controller.specs.DataByte.{moreOf, extraOf, pastOf, softOf, purposeOf, under, pixelChip, pastWindow, olderByte, newerByte, softReset, registerByte, usedBy, givenBy, dataByte}
+use Rattle.controller.specs.Command.{closingNote, ignoring, closedBy, closed, barredNote, begun}
+use Rattle.controller.specs.Command.{withPartial, executed, sortedBy, passedBy, passed, commandByte}
+use Rattle.controller.specs.DataByte.{moreOf, extraOf, pastOf, softOf, purposeOf, under, pixelChip, pastWindow}
+use Rattle.controller.specs.DataByte.{olderByte, newerByte, softReset, registerByte, usedBy, givenBy, dataByte}
 use Rattle.controller.specs.Reading.{drivenByte, readMore, missedBy, afterRead, readingBy, reading}
 use Rattle.controller.specs.Reset.{cutBy, cut, cleared, loweredBy, raisedBy, edge, resetEdge}
-use Rattle.controller.specs.TurnedBack.{badConfig, badPair, badRegisters, badCurrent, refreshRuns, endsRefresh, foreignContents, foreignRecord, turnedBack, makingRefused}
+use Rattle.controller.specs.TurnedBack.{badConfig, badPair, badRegisters, badCurrent, refreshRuns, endsRefresh}
+use Rattle.controller.specs.TurnedBack.{foreignContents, foreignRecord, turnedBack, makingRefused}
 use Rattle.controller.specs.Calls.{takingRefused, takeCall, firstChip, firstBuffers, made}
 use Rattle.controller.specs.Sound.{Sound}
-use Rattle.controller.proofs.Parts.{fitting, sound-regs, sound-luts, sound-mode, sound-current, sound-log, sound-now, sound-operation, sound-old, sound-new, sound-tell, sound-told, good-area, Stands, stands, good-cursor, next-stands}
+use Rattle.controller.proofs.Parts.{fitting, sound-regs, sound-luts, sound-mode, sound-current, sound-log}
+use Rattle.controller.proofs.Parts.{sound-now, sound-operation, sound-old, sound-new, sound-tell}
+use Rattle.controller.proofs.Parts.{sound-told, good-area, Stands, stands, good-cursor, next-stands}
 use Rattle.controller.proofs.Glass.{sound-ended-refresh, sound-cut-refresh, sound-refreshed}
 
 -- ---- a call arrives
@@ -145,7 +151,8 @@ sound-older a b w c s =
     by-cases (ltb (area .y1) (a .cursor .y))
     (λ t. rw t (sound-past a w c s))
     (λ t. rw t (sound-pixel a _ (ltb-false (area .y1) (a .cursor .y) t)
-    (sound-old (written (w .lent .old) area (a .cursor .x) (a .cursor .y) b) w (length-written (w .lent .old) area (a .cursor .x) (a .cursor .y) b) s)))
+    (sound-old (written (w .lent .old) area (a .cursor .x) (a .cursor .y) b) w
+    (length-written (w .lent .old) area (a .cursor .x) (a .cursor .y) b) s)))
 
 sound-newer : (a : Active) (b : ℕ) (w : World) → Stands (a .cursor) → Sound w → Sound (newerByte a b w)
 unfolding newerByte
@@ -154,16 +161,20 @@ sound-newer a b w c s =
     by-cases (ltb (area .y1) (a .cursor .y))
     (λ t. rw t (sound-past a w c s))
     (λ t. rw t (sound-pixel a _ (ltb-false (area .y1) (a .cursor .y) t)
-    (sound-new (written (w .lent .new) area (a .cursor .x) (a .cursor .y) b) w (length-written (w .lent .new) area (a .cursor .x) (a .cursor .y) b) s)))
+    (sound-new (written (w .lent .new) area (a .cursor .x) (a .cursor .y) b) w
+    (length-written (w .lent .new) area (a .cursor .x) (a .cursor .y) b) s)))
 
 sound-soft : (w : World) → Sound w → Sound (onChip softReset w)
 sound-soft w s =
-    sound-operation _ _ refl (sound-mode _ _ (sound-luts resetLuts _ (sound-regs (resetOf (w .chip .config .variant)) w (reset-in-range (w .chip .config .variant)) s)))
+    sound-operation _ _ refl
+    (sound-mode _ _
+    (sound-luts resetLuts _ (sound-regs (resetOf (w .chip .config .variant)) w (reset-in-range (w .chip .config .variant)) s)))
 
 sound-register : (a : Active) (b : ℕ) (w : World) → b < 256 → Sound w → Sound (onChip (registerByte a b) w)
 sound-register a b w h s =
     sound-luts (lutByteOf (a .command) (a .received) b (w .chip .luts)) _
-    (sound-regs (byteOf (a .command) (a .received) b (w .chip .regs)) w (byte-in-range (a .command) (a .received) b (w .chip .regs) (s .regs) h) s)
+    (sound-regs (byteOf (a .command) (a .received) b (w .chip .regs)) w
+    (byte-in-range (a .command) (a .received) b (w .chip .regs) (s .regs) h) s)
 
 sound-used-by : (u : Use) (a : Active) (b : ℕ) (w : World) → b < 256 → Stands (a .cursor) → Sound w → Sound (usedBy u a b w)
 sound-used-by use-for.Extra a b w h c s = sound-under (extraOf (moreOf a)) _ c (sound-tell (ExtraData (a .command)) w s)
@@ -258,13 +269,22 @@ good-pair p r = rw (le-ltb 1023 (p .h) (r .h-most), le-ltb 1023 (p .v) (r .v-mos
 
 good-registers : (r : Registers) → InRange r → badRegisters r ≡ false
 unfolding badRegisters
-good-registers r q = rw (good-area (r .window) (q .window-held), good-pair (r .resolution) (q .resolution-held), good-pair (r .start) (q .start-held))
+good-registers r q =
+    rw (good-area (r .window) (q .window-held), good-pair (r .resolution) (q .resolution-held), good-pair (r .start) (q .start-held))
 
 pub home : (w : World) → Sound w → foreignRecord (w .chip) ≡ false
 unfolding foreignRecord badConfig
-home w s = rw (eq-eqb (refusal (w .chip .config)) 0 (s .config), good-registers (w .chip .regs) (s .regs), s .stage, s .work, le-ltb 1024 (w .chip .log .stored) (s .stored))
+home w s =
+    rw (
+      eq-eqb (refusal (w .chip .config)) 0 (s .config),
+      good-registers (w .chip .regs) (s .regs),
+      s .stage,
+      s .work,
+      le-ltb 1024 (w .chip .log .stored) (s .stored),
+    )
 
-home-contents : (asserted : Bool) (t : ℕ) (w : World) → Sound w → (endsRefresh asserted t (w .chip) && foreignContents (w .chip .config .optics .«full_swing») (w .lent)) ≡ false
+home-contents : (asserted : Bool) (t : ℕ) (w : World) → Sound w
+    → (endsRefresh asserted t (w .chip) && foreignContents (w .chip .config .optics .«full_swing») (w .lent)) ≡ false
 unfolding endsRefresh foreignContents
 home-contents asserted t w s =
     by-cases (refreshRuns (w .chip .operation .work))
@@ -299,7 +319,9 @@ sound-first c h e =
             picture = length-replicate _ _;
             rows = length-replicate {A = ℕ} 5120 0;
           });
-      states = states-replicate (c .optics .«full_swing») (c .panel .sources * c .panel .gates) (levelOf (c .optics .«initial_gray») (c .optics .«full_swing»))
+      states =
+          states-replicate (c .optics .«full_swing») (c .panel .sources * c .panel .gates)
+          (levelOf (c .optics .«initial_gray») (c .optics .«full_swing»))
           (level-within (c .optics .«initial_gray») (c .optics .«full_swing») (omega arith));
       numbers = λ q. absurd (false≢true q);
     }

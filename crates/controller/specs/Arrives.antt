@@ -10,7 +10,8 @@ use Rattle.controller.specs.declared.Work.{Work}
 use Rattle.controller.specs.declared.Work.the-variants as work
 use Rattle.controller.specs.declared.Operation.{Operation}
 use Rattle.controller.specs.declared.Uc8253.{Uc8253}
-use Rattle.controller.specs.World.{World, onChip, withNow, withOperation, withPower, withPowered}
+use Rattle.controller.specs.World.{World, onChip}
+use Rattle.controller.specs.Setters.{withNow, withOperation, withPower, withPowered}
 use Rattle.controller.specs.Refresh.{endedRefresh}
 
 -- the clock becomes the larger of itself and the time given

@@ -1,4 +1,5 @@
--- The calls: refused first, with the record given back and no lent entry changed; else the clock, what has come to its end, and then the call's own.
+-- The calls: refused first, with the record given back and no lent entry changed;
+-- else the clock, what has come to its end, and then the call's own.
 use mathlib.Core.Bool.{Bool, true, false}
 use mathlib.Core.List.{List, []}
 use Prim.Native.Nat.{ℕ, _*_}
@@ -10,6 +11,7 @@ use Rattle.config.specs.declared.Uc8253Config.{Uc8253Config}
 use Rattle.config.specs.declared.Variant.the-variants as variant
 use Rattle.glass.specs.declared.RefreshKind.the-variants as shown
 use Rattle.glass.specs.Gray.{levelOf}
+use Rattle.registers.specs.declared.Registers.{Registers}
 use Rattle.registers.specs.Luts.{resetLuts}
 use Rattle.registers.specs.Reset.{resetOf}
 use Rattle.waveform.specs.declared.Waveform.{Waveform}
@@ -27,7 +29,8 @@ use Rattle.controller.specs.declared.reads.Read.{Read}
 use Rattle.controller.specs.declared.reads.Read.the-variants.{Nothing}
 use Rattle.controller.specs.declared.Due.{Due}
 use Rattle.controller.specs.declared.Due.the-variants as due
-use Rattle.controller.specs.World.{World, Buffers, world, onChip, withLog}
+use Rattle.controller.specs.World.{World, Buffers, world, onChip}
+use Rattle.controller.specs.Setters.{withLog}
 use Rattle.controller.specs.TurnedBack.{foreignRecord, turnedBack, makingRefused, lentRefused}
 use Rattle.controller.specs.Arrives.{arrived, rest, busyAt}
 use Rattle.controller.specs.Command.{commandByte}
@@ -106,52 +109,67 @@ rowAnswer p picture y =
 
 -- no table, no level, no period
 unfoldable pub noWaveform : Waveform
-noWaveform = record { tables = replicate 5 (record { groups = replicate 7 blank }); levels = record { vdh = 0; vdl = 0; vdhr = 0 }; «frame_ns» = 0 }
+noWaveform = record { tables = replicate 5 (replicate 7 blank); levels = record { vdh = 0; vdl = 0; vdhr = 0 }; «frame_ns» = 0 }
+
+-- a record that no call has seen: running, without supplies and without a command, the picture as the glass was
+abbrev pub untouched : Uc8253Config → Registers → Uc8253
+untouched c r = record {
+  config = c;
+  regs = r;
+  luts = resetLuts;
+  mode = record { power = power.Running; powered = false; «data_flag» = false };
+  stage = record { current = current.Idle };
+  operation = rest;
+  waveform = noWaveform;
+  image = record {
+    width = c .panel .sources;
+    height = c .panel .gates;
+    generation = 0;
+    kind = shown.PowerOn;
+    interrupted = false;
+    started = 0;
+    at = 0;
+  };
+  log = record { stored = 0; dropped = 0 };
+  now = 0;
+}
+
+-- a configuration and registers of zeros
+unfoldable pub noConfig : Uc8253Config
+noConfig = record {
+  variant = variant.Uc8253;
+  panel = record { sources = 0; gates = 0; «rows_reversed» = false; «columns_reversed» = false };
+  optics = record { «full_swing» = 0; «positive_drives_black» = false; «initial_gray» = 0 };
+  timing = record {
+    «power_on» = 0;
+    «power_off» = 0;
+    «deep_sleep» = 0;
+    «soft_reset» = 0;
+    «hardware_reset» = 0;
+    «frame_period» = replicate 32 0;
+  };
+  «ambient_celsius» = 0;
+}
+
+unfoldable pub noRegisters : Registers
+noRegisters = record {
+  psr = replicate 2 0;
+  power = replicate 5 0;
+  pll = 0;
+  cdi = replicate 2 0;
+  resolution = record { h = 0; v = 0 };
+  start = record { h = 0; v = 0 };
+  window = record { x0 = 0; y0 = 0; x1 = 0; y1 = 0 };
+  partial = false;
+}
 
 -- a record of zeros
 unfoldable pub zeros : Uc8253
-zeros = record {
-  config = record {
-    variant = variant.Uc8253;
-    panel = record { sources = 0; gates = 0; «rows_reversed» = false; «columns_reversed» = false };
-    optics = record { «full_swing» = 0; «positive_drives_black» = false; «initial_gray» = 0 };
-    timing = record { «power_on» = 0; «power_off» = 0; «deep_sleep» = 0; «soft_reset» = 0; «hardware_reset» = 0; «frame_period» = replicate 32 0 };
-    «ambient_celsius» = 0;
-  };
-  regs = record {
-    psr = replicate 2 0;
-    power = replicate 5 0;
-    pll = 0;
-    cdi = replicate 2 0;
-    resolution = record { h = 0; v = 0 };
-    start = record { h = 0; v = 0 };
-    window = record { x0 = 0; y0 = 0; x1 = 0; y1 = 0 };
-    partial = false;
-  };
-  luts = resetLuts;
-  mode = record { power = power.Running; powered = false; «data_flag» = false };
-  stage = record { current = current.Idle };
-  operation = rest;
-  waveform = noWaveform;
-  image = record { width = 0; height = 0; generation = 0; kind = shown.PowerOn; interrupted = false; started = 0; at = 0 };
-  log = record { stored = 0; dropped = 0 };
-  now = 0;
-}
+zeros = untouched noConfig noRegisters
 
 -- the chip at power-on
 unfoldable pub firstChip : Uc8253Config → Uc8253
-firstChip c = record {
-  config = c;
-  regs = resetOf (c .variant);
-  luts = resetLuts;
-  mode = record { power = power.Running; powered = false; «data_flag» = false };
-  stage = record { current = current.Idle };
-  operation = rest;
-  waveform = noWaveform;
-  image = record { width = c .panel .sources; height = c .panel .gates; generation = 0; kind = shown.PowerOn; interrupted = false; started = 0; at = 0 };
-  log = record { stored = 0; dropped = 0 };
-  now = 0;
-}
+firstChip c = untouched c (resetOf (c .variant))
 
 -- every state full swing × initial grey / 255, the picture the initial grey, and planes, table numbers and diagnostics zero
 unfoldable pub firstBuffers : Uc8253Config → Buffers

@@ -9,7 +9,8 @@ use Rattle.registers.specs.Written.{writtenOf}
 use Rattle.command.specs.declared.kinds.Kind.{Kind}
 use Rattle.command.specs.declared.kinds.Kind.the-variants as kind
 use Rattle.command.specs.Kinds.{kindOf, leastCount}
-use Rattle.diagnostic.specs.declared.DiagnosticKind.the-variants.{MissingData, LutLength, WhileInReset, WhileAsleep, WhileBusy, UnknownCommand, UnsupportedCommand}
+use Rattle.diagnostic.specs.declared.DiagnosticKind.the-variants.{MissingData, LutLength}
+use Rattle.diagnostic.specs.declared.DiagnosticKind.the-variants.{WhileInReset, WhileAsleep, WhileBusy, UnknownCommand, UnsupportedCommand}
 use Rattle.controller.specs.declared.Power.{Power}
 use Rattle.controller.specs.declared.Power.the-variants as power
 use Rattle.controller.specs.declared.Work.{Work}
@@ -20,7 +21,9 @@ use Rattle.controller.specs.declared.Current.the-variants as current
 use Rattle.controller.specs.declared.Uc8253.{Uc8253}
 use Rattle.controller.specs.declared.notes.Note.{Note}
 use Rattle.controller.specs.declared.notes.Note.the-variants.{Quiet, Told}
-use Rattle.controller.specs.World.{World, onChip, withCurrent, withRegs, withDataFlag, tell, told}
+use Rattle.controller.specs.World.{World, onChip}
+use Rattle.controller.specs.Setters.{withCurrent, withRegs, withDataFlag}
+use Rattle.controller.specs.Tell.{tell, told}
 use Rattle.controller.specs.Arrives.{starting}
 use Rattle.controller.specs.Refresh.{refreshed}
 
@@ -97,7 +100,16 @@ begun c k p =
 
 -- 91 sets the flag of the window, 92 clears it
 abbrev pub withPartial : Bool → Registers → Registers
-withPartial x r = record { psr = r .psr; power = r .power; pll = r .pll; cdi = r .cdi; resolution = r .resolution; start = r .start; window = r .window; partial = x }
+withPartial x r = record {
+  psr = r .psr;
+  power = r .power;
+  pll = r .pll;
+  cdi = r .cdi;
+  resolution = r .resolution;
+  start = r .start;
+  window = r .window;
+  partial = x;
+}
 
 -- 04 acts with power off, 02 with power on; 12 is a refresh; 11 sets the data flag, 10 and 13 clear it
 unfoldable pub executed : ℕ → World → World

@@ -22,7 +22,9 @@ use Rattle.controller.specs.declared.Current.the-variants as current
 use Rattle.controller.specs.declared.Uc8253.{Uc8253}
 use Rattle.controller.specs.declared.uses.Use.{Use}
 use Rattle.controller.specs.declared.uses.Use.the-variants as use-for
-use Rattle.controller.specs.World.{World, world, onChip, withCurrent, withRegs, withLuts, withPowered, withOld, withNew, tell}
+use Rattle.controller.specs.World.{World, world, onChip}
+use Rattle.controller.specs.Setters.{withCurrent, withRegs, withLuts, withPowered, withOld, withNew}
+use Rattle.controller.specs.Tell.{tell}
 use Rattle.controller.specs.Arrives.{starting}
 use Rattle.controller.specs.Command.{ignoring}
 
@@ -32,25 +34,66 @@ countedOf n = min (n + 1) 65535
 
 -- one byte more
 abbrev pub moreOf : Active → Active
-moreOf a = record { command = a .command; kind = a .kind; received = countedOf (a .received); read = a .read; cursor = a .cursor; «extra_reported» = a .«extra_reported»; «past_reported» = a .«past_reported» }
+moreOf a = record {
+  command = a .command;
+  kind = a .kind;
+  received = countedOf (a .received);
+  read = a .read;
+  cursor = a .cursor;
+  «extra_reported» = a .«extra_reported»;
+  «past_reported» = a .«past_reported»;
+}
 
 -- kind 4 once a command
 abbrev pub extraOf : Active → Active
-extraOf a = record { command = a .command; kind = a .kind; received = a .received; read = a .read; cursor = a .cursor; «extra_reported» = true; «past_reported» = a .«past_reported» }
+extraOf a = record {
+  command = a .command;
+  kind = a .kind;
+  received = a .received;
+  read = a .read;
+  cursor = a .cursor;
+  «extra_reported» = true;
+  «past_reported» = a .«past_reported»;
+}
 
 -- kind 10 once
 abbrev pub pastOf : Active → Active
-pastOf a = record { command = a .command; kind = a .kind; received = a .received; read = a .read; cursor = a .cursor; «extra_reported» = a .«extra_reported»; «past_reported» = true }
+pastOf a = record {
+  command = a .command;
+  kind = a .kind;
+  received = a .received;
+  read = a .read;
+  cursor = a .cursor;
+  «extra_reported» = a .«extra_reported»;
+  «past_reported» = true;
+}
 
 -- the cursor goes on
 abbrev pub movedTo : Cursor → Active → Active
-movedTo c a = record { command = a .command; kind = a .kind; received = a .received; read = a .read; cursor = c; «extra_reported» = a .«extra_reported»; «past_reported» = a .«past_reported» }
+movedTo c a = record {
+  command = a .command;
+  kind = a .kind;
+  received = a .received;
+  read = a .read;
+  cursor = c;
+  «extra_reported» = a .«extra_reported»;
+  «past_reported» = a .«past_reported»;
+}
 
 -- after a soft reset later bytes are ignored silently
 abbrev pub softOf : Active → Active
-softOf a = record { command = a .command; kind = kind.Write (params.Exactly 1); received = a .received; read = a .read; cursor = a .cursor; «extra_reported» = true; «past_reported» = a .«past_reported» }
+softOf a = record {
+  command = a .command;
+  kind = kind.Write (params.Exactly 1);
+  received = a .received;
+  read = a .read;
+  cursor = a .cursor;
+  «extra_reported» = true;
+  «past_reported» = a .«past_reported»;
+}
 
--- byte number i, from 0, that the command c takes: the first of 00 with bit 0 clear is a soft reset; 07 with A5 starts deep sleep, else kind 9; 10 and 13 are pixels
+-- byte number i, from 0, that the command c takes: the first of 00 with bit 0 clear is a soft reset;
+-- 07 with A5 starts deep sleep, else kind 9; 10 and 13 are pixels
 unfoldable pub doing : ℕ → ℕ → ℕ → Use
 doing c i b =
     pick (eqb c 0x00) (pick (eqb i 0) (pick (bitSet b 0) use-for.Register use-for.Soft) use-for.Register)
@@ -68,18 +111,22 @@ doneBy kind.Unknown c i b = use-for.Quiet
 
 -- beyond the largest count: kind 4 once a command
 unfoldable pub purposeOf : Active → ℕ → Use
-purposeOf a b = pick (takesByte (a .kind) (a .received)) (doneBy (a .kind) (a .command) (a .received) b) (pick (a .«extra_reported») use-for.Quiet use-for.Extra)
+purposeOf a b =
+    pick (takesByte (a .kind) (a .received)) (doneBy (a .kind) (a .command) (a .received) b)
+    (pick (a .«extra_reported») use-for.Quiet use-for.Extra)
 
 abbrev pub under : Active → Uc8253 → Uc8253
 under a p = withCurrent (current.Active a) p
 
--- a byte of 10 or 13, whose plane put into the buffers is `put`: past the last row, kind 10 once
+-- the record once a byte of 10 or 13 is put: the cursor goes on
 unfoldable pub pixelChip : Active → Uc8253 → Uc8253
 pixelChip a p = under (movedTo (nextOf (writtenOf (p .regs)) (a .cursor)) a) p
 
+-- past the last row, kind 10 once
 unfoldable pub pastWindow : Active → World → World
 pastWindow a w = pick (a .«past_reported») (onChip (under a) w) (onChip (under (pastOf a)) (tell (PastTheWindow (a .command)) w))
 
+-- 10 puts eight bits from the cursor into the old plane, 13 into the new one
 unfoldable pub olderByte : Active → ℕ → World → World
 olderByte a b w =
     let area = writtenOf (w .chip .regs) in
@@ -94,10 +141,14 @@ newerByte a b w =
 
 -- registers reset, power off, soft reset
 abbrev pub softReset : Uc8253 → Uc8253
-softReset p = starting work.SoftReset (p .config .timing .«soft_reset») (withPowered false (withLuts resetLuts (withRegs (resetOf (p .config .variant)) p)))
+softReset p =
+    starting work.SoftReset (p .config .timing .«soft_reset»)
+    (withPowered false (withLuts resetLuts (withRegs (resetOf (p .config .variant)) p)))
 
 abbrev pub registerByte : Active → ℕ → Uc8253 → Uc8253
-registerByte a b p = withLuts (lutByteOf (a .command) (a .received) b (p .luts)) (withRegs (byteOf (a .command) (a .received) b (p .regs)) p)
+registerByte a b p =
+    withLuts (lutByteOf (a .command) (a .received) b (p .luts))
+    (withRegs (byteOf (a .command) (a .received) b (p .regs)) p)
 
 -- what the byte does, which is number `received` of a
 abbrev pub usedBy : Use → Active → ℕ → World → World

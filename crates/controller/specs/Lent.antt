@@ -6,7 +6,11 @@ use lib.IntN.{ℤ}
 use denote.Ref.{RefT, now}
 use denote.Triple.Both.{Both}
 use Rattle.controller.specs.declared.Uc8253.{Uc8253}
-use Rattle.controller.specs.World.{World, Buffers, buffers, world, withRows}
+use Rattle.base.specs.declared.refusals.Refusal.{Refusal}
+use Rattle.base.specs.RefusalNumbers.{refusalNumber}
+use Rattle.controller.specs.Ask.{Ask, Answer, did, refusedBy, answered}
+use Rattle.controller.specs.World.{World, Buffers, buffers, world}
+use Rattle.controller.specs.Setters.{withRows}
 
 -- a slice in a requires; in an ensures, where it has an entry and an exit
 abbrev pub Slice : Type 0 → Type 0
@@ -44,16 +48,28 @@ Turns f p q old new states numbers picture rows =
 abbrev pub Gives : {A : Type 0} → (World → A) → Uc8253 → A → Over (Type 0)
 Gives g p x old new states numbers picture rows = x ≡ g (world p (before old new states numbers picture rows))
 
--- a call: what it does to the record and what is lent, and n, the number of its refusal
-abbrev pub Called : (World → World) → (World → ℕ) → Uc8253 → Uc8253 → ℕ → Over (Type 0)
-Called f number p q n old new states numbers picture rows =
-    Turns f p q old new states numbers picture rows × Gives number p n old new states numbers picture rows
+-- what is done to the record and what is lent, and by which refusal it is turned back
+abbrev pub Done : (World → World) → (World → ℕ) → Uc8253 → Uc8253 → Refusal → Over (Type 0)
+Done f number p q r old new states numbers picture rows =
+    Turns f p q old new states numbers picture rows × Gives number p (refusalNumber r) old new states numbers picture rows
+
+-- a call of demand 3's lists
+abbrev pub Called : Ask → Uc8253 → Uc8253 → Refusal → Over (Type 0)
+Called a = Done (did a) (refusedBy a)
+
+-- what it answers
+abbrev pub Answers : Ask → Uc8253 → Answer → Over (Type 0)
+Answers a = Gives (answered a)
+
+-- a question, which gives back no record: its refusal and its answer
+abbrev pub Asked : Ask → Uc8253 → Buffers → Refusal → Answer → Type 0
+Asked a p b r x = (refusalNumber r ≡ refusedBy a (world p b)) × (x ≡ answered a (world p b))
 
 -- the same of a making, which is given no record
-abbrev pub Makes : (Buffers → World) → (Buffers → ℕ) → Uc8253 → ℕ → Over (Type 0)
-Makes f number q n old new states numbers picture rows =
+abbrev pub Makes : (Buffers → World) → (Buffers → ℕ) → Uc8253 → Refusal → Over (Type 0)
+Makes f number q r old new states numbers picture rows =
     (world q (after old new states numbers picture rows) ≡ f (before old new states numbers picture rows))
-    × (n ≡ number (before old new states numbers picture rows))
+    × (refusalNumber r ≡ number (before old new states numbers picture rows))
 
 -- the rows alone, or one plane and the rows, whatever else is lent
 abbrev pub TurnsRows : (World → World) → Uc8253 → Uc8253 → Lent ℕ → Type 0
@@ -62,4 +78,5 @@ TurnsRows f p q rows = (b : Buffers) → world q (withRows (now (rows .exit)) b)
 abbrev pub TurnsPlane : (List ℕ → Buffers → Buffers) → (World → World) → Uc8253 → Uc8253 → Lent ℕ → Lent ℕ → Type 0
 TurnsPlane put f p q plane rows =
     (b : Buffers)
-    → world q (withRows (now (rows .exit)) (put (now (plane .exit)) b)) ≡ f (world p (withRows (now (rows .entry)) (put (now (plane .entry)) b)))
+    → world q (withRows (now (rows .exit)) (put (now (plane .exit)) b))
+    ≡ f (world p (withRows (now (rows .entry)) (put (now (plane .entry)) b)))

@@ -1,4 +1,6 @@
 pub mod World
+pub mod Setters
+pub mod Tell
 pub mod Arrives
 pub mod Command
 pub mod DataByte
@@ -8,4 +10,5 @@ pub mod TurnedBack
 pub mod Reset
 pub mod Sound
 pub mod Calls
+pub mod Ask
 pub mod Lent

@@ -14,7 +14,9 @@ use Rattle.controller.specs.declared.Current.the-variants as current
 use Rattle.controller.specs.declared.Uc8253.{Uc8253}
 use Rattle.controller.specs.declared.reads.Read.{Read}
 use Rattle.controller.specs.declared.reads.Read.the-variants.{Byte, Nothing}
-use Rattle.controller.specs.World.{World, onChip, withCurrent, tell}
+use Rattle.controller.specs.World.{World, onChip}
+use Rattle.controller.specs.Setters.{withCurrent}
+use Rattle.controller.specs.Tell.{tell}
 use Rattle.controller.specs.Arrives.{busyAt}
 
 -- the bits of `flags` (mod.rs): 6 under 91, 4 always, 3 the data flag, 2 power on, 1 power off, 0 not busy
@@ -60,7 +62,15 @@ readOf p = readFrom (p .stage .current) p
 
 -- one byte more was read; counts hold at 65,535
 abbrev pub readMore : Active → Active
-readMore a = record { command = a .command; kind = a .kind; received = a .received; read = min (a .read + 1) 65535; cursor = a .cursor; «extra_reported» = a .«extra_reported»; «past_reported» = a .«past_reported» }
+readMore a = record {
+  command = a .command;
+  kind = a .kind;
+  received = a .received;
+  read = min (a .read + 1) 65535;
+  cursor = a .cursor;
+  «extra_reported» = a .«extra_reported»;
+  «past_reported» = a .«past_reported»;
+}
 
 -- a first read with no byte under a read command stores kind 14
 abbrev pub missedBy : Read → Active → World → World
@@ -69,7 +79,9 @@ missedBy Nothing a w = pick (eqb (a .read) 0) (tell (NothingToRead (a .command))
 
 abbrev pub afterRead : Kind → Active → World → World
 afterRead (kind.Write n) a w = w
-afterRead kind.Read a w = missedBy (drivenByte (w .chip .config .variant) (w .chip) (a .command) (a .read)) a (onChip (withCurrent (current.Active (readMore a))) w)
+afterRead kind.Read a w =
+    missedBy (drivenByte (w .chip .config .variant) (w .chip) (a .command) (a .read)) a
+    (onChip (withCurrent (current.Active (readMore a))) w)
 afterRead (kind.Unsupported n) a w = w
 afterRead kind.Unknown a w = w
 

@@ -14,7 +14,6 @@ use Rattle.glass.specs.declared.RefreshKind.the-variants.{Full, Partial}
 use Rattle.diagnostic.specs.declared.DiagnosticKind.the-variants.{RefreshNotModelled, RefreshWithoutPower}
 use Rattle.registers.specs.Flags.{bitSet, copiesNewToOld}
 use Rattle.registers.specs.Written.{writtenOf}
-use Rattle.registers.specs.Luts.{lutBytes}
 use Rattle.ram.specs.Copy.{copied}
 use Rattle.waveform.specs.declared.Waveform.{Waveform}
 use Rattle.waveform.specs.Levels.{levelsOf}
@@ -31,8 +30,9 @@ use Rattle.controller.specs.declared.Uc8253.{Uc8253}
 use Rattle.controller.specs.declared.Work.the-variants as work
 use Rattle.controller.specs.declared.notes.Note.{Note}
 use Rattle.controller.specs.declared.notes.Note.the-variants.{Quiet, Told}
-use Rattle.controller.specs.World.{World, Buffers, world, withOperation, withWaveform, withImage, withNumbers, withStates, withPicture, withOld, tell}
-use mathlib.Core.List.{map}
+use Rattle.controller.specs.World.{World, Buffers, world}
+use Rattle.controller.specs.Setters.{withOperation, withWaveform, withImage, withNumbers, withStates, withPicture, withOld}
+use Rattle.controller.specs.Tell.{tell}
 
 -- refused in order: bit 5 of the first 00 byte clear (text 1), bit 4 clear (2), bit 1 clear (3), power off
 unfoldable pub refreshNote : ℕ → Bool → Note
@@ -47,11 +47,13 @@ refreshNote psr powered =
 
 -- the waveform that the registers give: the tables, the levels of 01, and the period of the low five bits of 30
 unfoldable pub waveformNow : Uc8253 → Waveform
-waveformNow p = waveformOf (map lutBytes (p .luts .luts)) (levelsOf (p .regs .power)) (getD (p .config .timing .«frame_period») (p .regs .pll % 32) 0)
+waveformNow p = waveformOf (p .luts .bytes) (levelsOf (p .regs .power)) (getD (p .config .timing .«frame_period») (p .regs .pll % 32) 0)
 
 -- each pixel's number, row by row
 unfoldable pub numbersNow : Uc8253 → Buffers → List ℕ
-numbersNow p b = rowsFilled (numberOf (pixelsOf (p .config .panel) (p .regs) (p .config .variant)) (b .old) (b .new)) (p .config .panel .sources) (p .config .panel .gates) (b .numbers)
+numbersNow p b =
+    rowsFilled (numberOf (pixelsOf (p .config .panel) (p .regs) (p .config .variant)) (b .old) (b .new))
+    (p .config .panel .sources) (p .config .panel .gates) (b .numbers)
 
 -- the picture is partial if any number is 255, else full
 unfoldable pub kindBy : List ℕ → RefreshKind
@@ -100,7 +102,8 @@ unfoldable pub finished : (ℕ → List ℤ) → RefreshKind → Bool → ℕ �
 finished frames kind interrupted at w =
     let swing = w .chip .config .optics .«full_swing» in
     let states = walked swing frames (w .lent .numbers) (w .lent .states) in
-    world (withImage (published kind interrupted at (w .chip)) (w .chip)) (withPicture (drawn swing states (w .lent .picture)) (withStates states (w .lent)))
+    world (withImage (published kind interrupted at (w .chip)) (w .chip))
+    (withPicture (drawn swing states (w .lent .picture)) (withStates states (w .lent)))
 
 -- the frames of a table in the refresh under way
 abbrev pub allFrames : Uc8253 → ℕ → List ℤ

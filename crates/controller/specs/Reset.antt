@@ -9,7 +9,9 @@ use Rattle.controller.specs.declared.Work.{Work}
 use Rattle.controller.specs.declared.Work.the-variants as work
 use Rattle.controller.specs.declared.Current.the-variants as current
 use Rattle.controller.specs.declared.Uc8253.{Uc8253}
-use Rattle.controller.specs.World.{World, onChip, withCurrent, withRegs, withLuts, withPower, withPowered, withOperation, tell}
+use Rattle.controller.specs.World.{World, onChip}
+use Rattle.controller.specs.Setters.{withCurrent, withRegs, withLuts, withPower, withPowered, withOperation}
+use Rattle.controller.specs.Tell.{tell}
 use Rattle.controller.specs.Arrives.{rest, starting}
 use Rattle.controller.specs.Command.{closed}
 use Rattle.controller.specs.Refresh.{cutRefresh}
@@ -29,7 +31,9 @@ cut w = cutBy (w .chip .operation .work) w
 
 -- the running operation is dropped, registers restored, power cut; RAM and data flag stay, and no command is under way
 unfoldable pub cleared : Uc8253 → Uc8253
-cleared p = withCurrent current.Idle (withOperation rest (withPowered false (withPower power.InReset (withLuts resetLuts (withRegs (resetOf (p .config .variant)) p)))))
+cleared p =
+    withCurrent current.Idle
+    (withOperation rest (withPowered false (withPower power.InReset (withLuts resetLuts (withRegs (resetOf (p .config .variant)) p)))))
 
 -- asserting reset; asserted again, only the clock moves
 abbrev pub loweredBy : Power → World → World

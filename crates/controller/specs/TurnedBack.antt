@@ -75,7 +75,8 @@ lengthsFit c old new states numbers picture rows =
     eqb old 60000 && (eqb new 60000 && (eqb states pixels && (eqb numbers pixels && (eqb picture pixels && eqb rows 5120))))
 
 abbrev pub lentFits : Uc8253Config → Buffers → Bool
-lentFits c b = lengthsFit c (length (b .old)) (length (b .new)) (length (b .states)) (length (b .numbers)) (length (b .picture)) (length (b .rows))
+lentFits c b =
+    lengthsFit c (length (b .old)) (length (b .new)) (length (b .states)) (length (b .numbers)) (length (b .picture)) (length (b .rows))
 
 -- 7: the call ends a refresh: its end has come, or the call asserts reset and the line was not low
 abbrev pub cuts : Power → Bool → Bool
@@ -93,7 +94,8 @@ refreshRuns work.HardwareReset = false
 refreshRuns (work.Refresh r) = true
 
 unfoldable pub endsRefresh : Bool → ℕ → Uc8253 → Bool
-endsRefresh asserted t p = refreshRuns (p .operation .work) && (leb (p .operation .until) (max (p .now) t) || cuts (p .mode .power) asserted)
+endsRefresh asserted t p =
+    refreshRuns (p .operation .work) && (leb (p .operation .until) (max (p .now) t) || cuts (p .mode .power) asserted)
 
 -- a state is outside 0 .. full swing or a table number is none of 1, 2, 3, 4, 255
 unfoldable pub foreignContents : ℕ → Buffers → Bool

@@ -12,7 +12,6 @@ use crate::Uc8253;
 use crate::Work;
 use base::greatest;
 use config::Uc8253Config;
-use config::Validity;
 use registers::Area;
 use registers::Pair;
 use registers::Registers;
@@ -39,13 +38,7 @@ fn bad_config(config: Uc8253Config) -> bool
     ensures { λ r. ⌜ r ≡ tests.badConfig config ⌝ }
 {
     let v = config.validate();
-    match v {
-        Validity::Valid => false,
-        Validity::EmptyPanel => true,
-        Validity::PanelTooLarge => true,
-        Validity::FullSwing => true,
-        Validity::FramePeriod => true,
-    }
+    !v.none()
 }
 
 fn bad_area(a: Area) -> bool

@@ -1,5 +1,7 @@
--- Coalescence: every start in 0 .. full swing ends in one state exactly when the highest and the lowest running sum lie at least the full swing apart.
--- Starts up to the fall meet at black, starts within the rise of white meet at white (`low`, `high`); between the two nothing is held (`free`).
+-- Coalescence: every start in 0 .. full swing ends in one state exactly when the highest
+-- and the lowest running sum lie at least the full swing apart.
+-- Starts up to the fall meet at black, starts within the rise of white meet at white (`low`, `high`);
+-- between the two nothing is held (`free`).
 use mathlib.Core.Path.{_≡_, refl, sym, ap, _∙_}
 use mathlib.Core.Logic.{_↔_}
 use mathlib.Core.List.{List, [], _∷_}
@@ -74,7 +76,8 @@ step-free s x (negsuc n) h k =
     (omega (arith, step-down s x n (omega arith), up-add (pos x) (negsuc n)))
     (omega (arith, dn-add (pos x) (negsuc n)))
 
-join : (s x : ℕ) (d : ℤ) (ds : List ℤ) → pos (step s x d) ≡ pos x +ℤ d → pos (walk s (step s x d) ds) ≡ pos (step s x d) +ℤ total ds → pos (walk s x (d ∷ ds)) ≡ pos x +ℤ total (d ∷ ds)
+join : (s x : ℕ) (d : ℤ) (ds : List ℤ) → pos (step s x d) ≡ pos x +ℤ d → pos (walk s (step s x d) ds) ≡ pos (step s x d) +ℤ total ds
+    → pos (walk s x (d ∷ ds)) ≡ pos x +ℤ total (d ∷ ds)
 join s x d ds e f = f ∙ ap (λ (z : ℤ). z +ℤ total ds) e ∙ +ℤ-assoc (pos x) d (total ds)
 
 free : (s x : ℕ) (ds : List ℤ) → fall ds ≤ x → x + rise ds ≤ s → pos (walk s x ds) ≡ pos x +ℤ total ds
@@ -85,7 +88,8 @@ free s x (pos n ∷ ds) h k =
 free s x (negsuc n ∷ ds) h k =
     let b : x ≤ s = omega arith in
     join s x (negsuc n) ds (step-free s x (negsuc n) (omega (arith, fall-down n ds)) (omega arith))
-    (free s (step s x (negsuc n)) ds (omega (arith, step-down s x n b, fall-down n ds)) (omega (arith, step-down s x n b, rise-down n ds, fall-down n ds)))
+    (free s (step s x (negsuc n)) ds (omega (arith, step-down s x n b, fall-down n ds))
+    (omega (arith, step-down s x n b, rise-down n ds, fall-down n ds)))
 
 -- one start that is both at the fall or below, and within the rise of the swing
 meet : (s x : ℕ) (ds : List ℤ) → s ≤ rise ds + fall ds → x ≤ s → walk s x ds ≡ walk s s ds

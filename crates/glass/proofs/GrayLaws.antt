@@ -57,15 +57,25 @@ least-split q s = omega (arith, parted (2 * q - 1))
 module _ (x s : ℕ) (h : 0 < s) where
   -- twice as many swings as q, less one
   odd : (q : ℕ) → 0 < q → q * (2 * s) ≡ (2 * q - 1) * s + s
-  odd q k = sym (mul-assoc q 2 s) ∙ ap (λ (n : ℕ). n * s) {x = q * 2} {y = 2 * q - 1 + 1} (omega arith) ∙ omega (arith, add-mul (2 * q - 1) 1 s)
+  odd q k =
+      sym (mul-assoc q 2 s) ∙ ap (λ (n : ℕ). n * s) {x = q * 2} {y = 2 * q - 1 + 1} (omega arith) ∙ omega (arith, add-mul (2 * q - 1) 1 s)
 
   pub least-gray : (q : ℕ) → q ≤ 255 → leastOf q s ≤ x → q ≤ grayOf x s
   least-gray zero k l = omega arith
-  least-gray (suc q) k l = omega (arith, le-div-iff-mul-le {k = 2 * s} {x = suc q} {y = 2 * (x * 255) + s} (omega arith) .1 (omega (arith, odd (suc q) (omega arith))))
+  least-gray (suc q) k l =
+      omega (
+        arith,
+        le-div-iff-mul-le {k = 2 * s} {x = suc q} {y = 2 * (x * 255) + s} (omega arith) .1 (omega (arith, odd (suc q) (omega arith))),
+      )
 
   pub gray-least : (q : ℕ) → q ≤ grayOf x s → leastOf q s ≤ x
   gray-least zero l = omega arith
-  gray-least (suc q) l = omega (arith, odd (suc q) (omega arith), le-div-iff-mul-le {k = 2 * s} {x = suc q} {y = 2 * (x * 255) + s} (omega arith) .0 (omega arith))
+  gray-least (suc q) l =
+      omega (
+        arith,
+        odd (suc q) (omega arith),
+        le-div-iff-mul-le {k = 2 * s} {x = suc q} {y = 2 * (x * 255) + s} (omega arith) .0 (omega arith),
+      )
 
 -- a state from the least of grey q to below the next one's
 pub gray-between : (q x s : ℕ) → q ≤ 255 → leastOf q s ≤ x → x < leastOf (q + 1) s → grayOf x s ≡ q
@@ -88,7 +98,18 @@ twice i = ap (λ (n : ℕ). 2 ^ n) (add-one i) ∙ pow-succ' 2 i
 pub digits-more : (x s i q r : ℕ) (d e : Sum) → i < 8 → Digits x s i q r → Carried r r s d → Carried (d .rest) x s e →
     Digits x s (i + 1) (2 * q + d .carry + e .carry) (e .rest)
 digits-more x s i q r d e l g f f′ = record {
-  whole = omega (arith, ap (λ (n : ℕ). n * x) (twice i), mul-assoc 2 (2 ^ i) x, g .whole, f .whole, f′ .whole, mul-assoc 2 q s, add-mul (2 * q + d .carry) (e .carry) s, add-mul (2 * q) (d .carry) s);
+  whole =
+      omega (
+        arith,
+        ap (λ (n : ℕ). n * x) (twice i),
+        mul-assoc 2 (2 ^ i) x,
+        g .whole,
+        f .whole,
+        f′ .whole,
+        mul-assoc 2 q s,
+        add-mul (2 * q + d .carry) (e .carry) s,
+        add-mul (2 * q) (d .carry) s,
+      );
   below = f′ .below;
   small = omega (arith, twice i, g .small, f .one, f′ .one);
   count = omega arith;

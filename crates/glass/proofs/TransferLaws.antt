@@ -1,4 +1,5 @@
--- What a transfer means: it acts as the walk of its drives, alone, repeated and composed; and holding its moves to 64 bits changes no state.
+-- What a transfer means: it acts as the walk of its drives, alone, repeated and composed;
+-- and holding its moves to 64 bits changes no state.
 use mathlib.Core.Path.{_≡_, sym, ap, _∙_}
 use mathlib.Core.List.{List, [], _++_}
 use Prim.Native.Nat.{ℕ, suc, _+_, _-_, _*_, _≤_, min, max}
@@ -76,7 +77,11 @@ acts-identity s = record { ordered = omega arith; inside = le-refl s; same = λ 
 
 pub acts-repeated : (s n : ℕ) (d : ℤ) → s ≤ top → Acts s (shiftOf (min (n * up d) top) (min (n * dn d) top) s) (replicate n d)
 unfolding step hold
-acts-repeated s n d b = record { ordered = omega arith; inside = le-refl s; same = λ x h. act-is (shiftOf (min (n * up d) top) (min (n * dn d) top) s) x ∙ frames x h d ∙ sym (repeated s x n d h) }
+acts-repeated s n d b = record {
+  ordered = omega arith;
+  inside = le-refl s;
+  same = λ x h. act-is (shiftOf (min (n * up d) top) (min (n * dn d) top) s) x ∙ frames x h d ∙ sym (repeated s x n d h);
+}
   where
     frames : (x : ℕ) → x ≤ s → (d : ℤ) → max 0 (min (x + min (n * up d) top - min (n * dn d) top) s) ≡ step s x (pos n *ℤ d)
     frames x h (pos k) =

@@ -1,4 +1,5 @@
--- What holds of a walk: it stays in 0 .. full swing, joins over lists in a row, takes n equal frames as one, and is one translation that is held.
+-- What holds of a walk: it stays in 0 .. full swing, joins over lists in a row, takes n equal frames as one,
+-- and is one translation that is held.
 use mathlib.Core.Path.{_≡_, refl, sym, ap, subst, _∙_}
 use mathlib.Core.List.{List, [], _∷_, _++_}
 use Prim.Native.Nat.{ℕ, zero, suc, _+_, _-_, _*_, _≤_, min, max}
@@ -46,7 +47,13 @@ once-more : (s x n : ℕ) (d : ℤ) → x ≤ s → step s (step s x d) (pos n *
 once-more s x n (pos k) h =
     omega (arith, step-up s x k, step-up s (step s x (pos k)) (n * k), step-up s x (suc n * k), suc-mul n k)
 once-more s x n (negsuc k) h =
-    omega (arith, step-down s x k h, times-down s (step s x (negsuc k)) n (step-within s x (negsuc k)) k, times-down s x (suc n) h k, suc-mul n (suc k))
+    omega (
+      arith,
+      step-down s x k h,
+      times-down s (step s x (negsuc k)) n (step-within s x (negsuc k)) k,
+      times-down s x (suc n) h k,
+      suc-mul n (suc k),
+    )
 
 none : (d : ℤ) → pos 0 *ℤ d ≡ pos 0
 none d = same (pos 0 *ℤ d) (pos 0) (omega (arith, up-times 0 d, zero-mul (up d))) (omega (arith, dn-times 0 d, zero-mul (dn d)))
@@ -105,7 +112,8 @@ hold-then lo hi lo′ hi′ (pos n) d h h′ =
         | yes r ↦ ap (λ (x : ℕ). hold lo′ hi′ (pos x +ℤ d)) {x = hold lo hi (pos n)} {y = hi} (omega arith)
             ∙ sym (squeeze-high lo′ hi′ l u v h′ p (omega (arith, up-add (pos hi) d, up-add (pos n) d)))
         | no r ↦ ap (λ (x : ℕ). hold lo′ hi′ (pos x +ℤ d)) {x = hold lo hi (pos n)} {y = n} (omega arith)
-            ∙ sym (squeeze-mid lo′ hi′ l u v h′ (omega (arith, up-add (pos lo) d, up-add (pos n) d)) (omega (arith, up-add (pos hi) d, up-add (pos n) d)))
+            ∙ sym (squeeze-mid lo′ hi′ l u v h′ (omega (arith, up-add (pos lo) d, up-add (pos n) d))
+            (omega (arith, up-add (pos hi) d, up-add (pos n) d)))
       ]
     ]
 

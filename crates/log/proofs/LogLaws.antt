@@ -23,7 +23,8 @@ pub reported-full : (g : Log) → 1024 ≤ g .stored → reported g ≡ record {
 unfolding reported
 reported-full g h = rw (le-ltb (g .stored) 1024 h)
 
-pub rows-room : (g : Log) (at : ℕ) (k : DiagnosticKind) (l : List ℕ) → g .stored < 1024 → rowsAfter g at k l ≡ putRow l (5 * g .stored) (rowOf at k)
+pub rows-room : (g : Log) (at : ℕ) (k : DiagnosticKind) (l : List ℕ) → g .stored < 1024
+    → rowsAfter g at k l ≡ putRow l (5 * g .stored) (rowOf at k)
 unfolding rowsAfter
 rows-room g at k l h = rw (lt-ltb (g .stored) 1024 h)
 
@@ -51,10 +52,12 @@ put-stores l i a b c d e =
     λ t. set (set (set (set (set l i a) (p t) b) (q t) c) (r t) d) (s t) e
 
 -- a row in the buffer stands between what was before it and what was after it
-pub put-whole : (l : List ℕ) (i at : ℕ) (k : DiagnosticKind) → i + 5 ≤ length l → putRow l i (rowOf at k) ≡ take i l ++ rowOf at k ++ drop (i + 5) l
+pub put-whole : (l : List ℕ) (i at : ℕ) (k : DiagnosticKind) → i + 5 ≤ length l
+    → putRow l i (rowOf at k) ≡ take i l ++ rowOf at k ++ drop (i + 5) l
 put-whole l i at k h = put-stores l i _ _ _ _ _ ∙ sets-eq (rowOf at k) l i h
 
-put-others : (l r : List ℕ) (i n : ℕ) → (n ≡ i → ⊥) → (n ≡ i + 1 → ⊥) → (n ≡ i + 2 → ⊥) → (n ≡ i + 3 → ⊥) → (n ≡ i + 4 → ⊥) → getD (putRow l i r) n 0 ≡ getD l n 0
+put-others : (l r : List ℕ) (i n : ℕ) → (n ≡ i → ⊥) → (n ≡ i + 1 → ⊥) → (n ≡ i + 2 → ⊥) → (n ≡ i + 3 → ⊥) → (n ≡ i + 4 → ⊥)
+    → getD (putRow l i r) n 0 ≡ getD l n 0
 put-others l r i n p q s t u = rw (getD-set-other, getD-set-other, getD-set-other, getD-set-other, getD-set-other)
 
 -- the row that was stored reads back as its five numbers
@@ -63,16 +66,19 @@ pub row-stored : (g : Log) (at : ℕ) (k : DiagnosticKind) (l : List ℕ) → le
 row-stored g at k l e h j b =
     let front : length (take (5 * g .stored) l) ≡ 5 * g .stored = length-take-le (5 * g .stored) l (omega arith) in
     ap (λ (m : List ℕ). getD m (5 * g .stored + j) 0) (rows-room g at k l h ∙ put-whole l (5 * g .stored) at k (omega arith))
-    ∙ List·getD-append (take (5 * g .stored) l ++ rowOf at k) (drop (5 * g .stored + 5) l) 0 (5 * g .stored + j) (simp length-append (omega arith))
+    ∙ List·getD-append (take (5 * g .stored) l ++ rowOf at k) (drop (5 * g .stored + 5) l) 0
+    (5 * g .stored + j) (simp length-append (omega arith))
     ∙ ap (λ (n : ℕ). getD (take (5 * g .stored) l ++ rowOf at k) (n + j) 0) (sym front)
     ∙ getD-append-add (take (5 * g .stored) l) (rowOf at k) j 0
 
 -- and no entry of another row changes
-pub row-others : (g : Log) (at : ℕ) (k : DiagnosticKind) (l : List ℕ) (n : ℕ) → (n / 5 ≡ g .stored → ⊥) → getD (rowsAfter g at k l) n 0 ≡ getD l n 0
+pub row-others : (g : Log) (at : ℕ) (k : DiagnosticKind) (l : List ℕ) (n : ℕ) → (n / 5 ≡ g .stored → ⊥)
+    → getD (rowsAfter g at k l) n 0 ≡ getD l n 0
 row-others g at k l n b = elim (decLe 1024 (g .stored)) [
   | yes h ↦ ap (λ (m : List ℕ). getD m n 0) (rows-full g at k l h)
   | no h ↦ ap (λ (m : List ℕ). getD m n 0) (rows-room g at k l (omega arith))
-      ∙ put-others l (rowOf at k) (5 * g .stored) n (λ e. b (omega arith)) (λ e. b (omega arith)) (λ e. b (omega arith)) (λ e. b (omega arith)) (λ e. b (omega arith))
+      ∙ put-others l (rowOf at k) (5 * g .stored) n (λ e. b (omega arith)) (λ e. b (omega arith)) (λ e. b (omega arith))
+      (λ e. b (omega arith)) (λ e. b (omega arith))
 ]
 
 pub rows-length : (g : Log) (at : ℕ) (k : DiagnosticKind) (l : List ℕ) → length (rowsAfter g at k l) ≡ length l
@@ -88,8 +94,9 @@ rows-stay g (r ∷ rs) l n h =
     rows-stay (reported g) rs (rowsAfter g (r .at) (r .kind) l) n (omega (arith, stored-grows g))
     ∙ row-others g (r .at) (r .kind) l n (λ e. omega arith)
 
-pub row-read-back : (g : Log) (rs : List Report) (l : List ℕ) → length l ≡ 5120 → g .stored + length rs ≤ 1024 → (i j : ℕ) → i < length rs → j < 5 → (d : Report) →
-    getD (rowsAfterAll g rs l) (5 * (g .stored + i) + j) 0 ≡ getD (rowOf (getD rs i d .at) (getD rs i d .kind)) j 0
+pub row-read-back : (g : Log) (rs : List Report) (l : List ℕ) → length l ≡ 5120 → g .stored + length rs ≤ 1024
+    → (i j : ℕ) → i < length rs → j < 5 → (d : Report)
+    → getD (rowsAfterAll g rs l) (5 * (g .stored + i) + j) 0 ≡ getD (rowOf (getD rs i d .at) (getD rs i d .kind)) j 0
 row-read-back g [] l e h i j p q d = absurd (not-suc-le-zero p)
 row-read-back g (r ∷ rs) l e h zero j p q d =
     ap (λ (n : ℕ). getD (rowsAfterAll g (r ∷ rs) l) (5 * n + j) 0) {y = g .stored} (omega arith)
@@ -97,13 +104,15 @@ row-read-back g (r ∷ rs) l e h zero j p q d =
     ∙ row-stored g (r .at) (r .kind) l e (omega arith) j q
 row-read-back g (r ∷ rs) l e h (suc i) j p q d =
     ap (λ (n : ℕ). getD (rowsAfterAll g (r ∷ rs) l) (5 * n + j) 0) {y = reported g .stored + i} (omega (arith, one-more g (omega arith)))
-    ∙ row-read-back (reported g) rs (rowsAfter g (r .at) (r .kind) l) (rows-length g (r .at) (r .kind) l ∙ e) (omega (arith, one-more g (omega arith))) i j (le-of-suc-le-suc p) q d
+    ∙ row-read-back (reported g) rs (rowsAfter g (r .at) (r .kind) l) (rows-length g (r .at) (r .kind) l ∙ e)
+    (omega (arith, one-more g (omega arith))) i j (le-of-suc-le-suc p) q d
 
 -- ---- the counts after reports in a row
 both : (s t d e : ℕ) → s ≡ t → d ≡ e → _≡_ {A = Log} (record { stored = s; dropped = d }) (record { stored = t; dropped = e })
 both s t d e p q = λ i. record { stored = p i; dropped = q i }
 
-pub all-stored : (g : Log) (rs : List Report) → g .stored + length rs ≤ 1024 → allReported g rs ≡ record { stored = g .stored + length rs; dropped = g .dropped }
+pub all-stored : (g : Log) (rs : List Report) → g .stored + length rs ≤ 1024
+    → allReported g rs ≡ record { stored = g .stored + length rs; dropped = g .dropped }
 all-stored g [] h = both (g .stored) (g .stored + 0) (g .dropped) (g .dropped) (omega arith) refl
 all-stored g (r ∷ rs) h =
     all-stored (reported g) rs (omega (arith, one-more g (omega arith)))
@@ -117,4 +126,5 @@ all-dropped g (r ∷ rs) h b =
     let s : reported g .stored ≡ g .stored = ap {B = ℕ} (λ x. x .stored) (reported-full g h) in
     let d : reported g .dropped ≡ min (g .dropped + 1) top = ap {B = ℕ} (λ x. x .dropped) (reported-full g h) in
     all-dropped (reported g) rs (omega arith) (omega arith)
-    ∙ both (reported g .stored) (g .stored) (min (reported g .dropped + length rs) top) (min (g .dropped + suc (length rs)) top) s (omega arith)
+    ∙ both (reported g .stored) (g .stored) (min (reported g .dropped + length rs) top)
+    (min (g .dropped + suc (length rs)) top) s (omega arith)

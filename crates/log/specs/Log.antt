@@ -18,7 +18,8 @@ reported g =
 
 -- the five numbers of a row from a place on; a place past the end takes none
 abbrev pub putRow : List ℕ → ℕ → List ℕ → List ℕ
-putRow l i r = set (set (set (set (set l i (getD r 0 0)) (i + 1) (getD r 1 0)) (i + 2) (getD r 2 0)) (i + 3) (getD r 3 0)) (i + 4) (getD r 4 0)
+putRow l i r =
+    set (set (set (set (set l i (getD r 0 0)) (i + 1) (getD r 1 0)) (i + 2) (getD r 2 0)) (i + 3) (getD r 3 0)) (i + 4) (getD r 4 0)
 
 -- the buffer after a report: the row that is stored begins at five times the rows before it
 unfoldable pub rowsAfter : Log → ℕ → DiagnosticKind → List ℕ → List ℕ

@@ -1,4 +1,5 @@
--- The bits of a byte and the number of a pixel, by tests that antt computes at every byte and bit: the other bits of a byte are 255 less it, and a number is 4 less 1 for an old white and less 2 for a new one.
+-- The bits of a byte and the number of a pixel, by tests that antt computes at every byte and bit:
+-- the other bits of a byte are 255 less it, and a number is 4 less 1 for an old white and less 2 for a new one.
 use mathlib.Core.Path.{_≡_, sym}
 use Prim.Native.Nat.{ℕ, _-_, _<_}
 use native.Mathlib.Omega.{arith}
@@ -18,7 +19,8 @@ other-test = tt
 other : (b k : ℕ) → b < 256 → k < 8 → bitOf (255 - b) k ≡ 1 - bitOf b k
 other b k hb hk =
     eqb→eq (bitOf (255 - b) k) (1 - bitOf b k)
-    (at 8 (λ k. eqb (bitOf (255 - b) k) (1 - bitOf b k)) (at 256 (λ b. below 8 (λ k. eqb (bitOf (255 - b) k) (1 - bitOf b k))) other-test b hb) k hk)
+    (at 8 (λ k. eqb (bitOf (255 - b) k) (1 - bitOf b k))
+    (at 256 (λ b. below 8 (λ k. eqb (bitOf (255 - b) k) (1 - bitOf b k))) other-test b hb) k hk)
 
 less-than-one : (v : ℕ) → eqb (1 - v) 1 ≡ eqb v 0
 less-than-one v = by-cases (eqb v 0)
@@ -50,4 +52,5 @@ number-of-ones old new k =
     let o = bitOf old k in
     let n = bitOf new k in
     eqb→eq (4 - o - n - n) (tableOf (eqb o 1) (eqb n 1))
-    (at 2 (λ n. eqb (4 - o - n - n) (tableOf (eqb o 1) (eqb n 1))) (at 2 (λ o. below 2 (λ n. eqb (4 - o - n - n) (tableOf (eqb o 1) (eqb n 1)))) number-test o (bit-small old k)) n (bit-small new k))
+    (at 2 (λ n. eqb (4 - o - n - n) (tableOf (eqb o 1) (eqb n 1)))
+    (at 2 (λ o. below 2 (λ n. eqb (4 - o - n - n) (tableOf (eqb o 1) (eqb n 1)))) number-test o (bit-small old k)) n (bit-small new k))

@@ -56,10 +56,12 @@ filled-at f p (suc n) l x d h k = elim (decLe n x) [
 
 filled-before : (f : ℕ → ℕ) (p n : ℕ) (l : List ℕ) (i d : ℕ) → i < p → getD (filled f p n l) i d ≡ getD l i d
 filled-before f p zero l i d h = refl
-filled-before f p (suc n) l i d h = getD-set-other (filled f p n l) (p + n) i (f n) d (λ e. absurd (omega arith)) ∙ filled-before f p n l i d h
+filled-before f p (suc n) l i d h =
+    getD-set-other (filled f p n l) (p + n) i (f n) d (λ e. absurd (omega arith)) ∙ filled-before f p n l i d h
 
 -- entry x of row y is f x y
-pub rows-at : (f : ℕ → ℕ → ℕ) (n m : ℕ) (l : List ℕ) (x y d : ℕ) → x < n → y < m → m * n ≤ length l → getD (rowsFilled f n m l) (y * n + x) d ≡ f x y
+pub rows-at : (f : ℕ → ℕ → ℕ) (n m : ℕ) (l : List ℕ) (x y d : ℕ) → x < n → y < m → m * n ≤ length l
+    → getD (rowsFilled f n m l) (y * n + x) d ≡ f x y
 rows-at f n zero l x y d h k b = absurd (omega arith)
 rows-at f n (suc m) l x y d h k b = elim (decLe m y) [
   | yes q ↦
@@ -67,6 +69,7 @@ rows-at f n (suc m) l x y d h k b = elim (decLe m y) [
       subst (λ (r : ℕ). getD (rowsFilled f n (suc m) l) (r * n + x) d ≡ f x r) (sym e)
       (filled-at (λ v. f v m) (m * n) n (rowsFilled f n m l) x d h (omega (arith, length-rows f n m l, suc-mul m n)))
   | no q ↦
-      filled-before (λ v. f v m) (m * n) n (rowsFilled f n m l) (y * n + x) d (omega (arith, suc-mul y n, mul-le-mul-right {m = suc y} {n = m} n (omega arith)))
+      filled-before (λ v. f v m) (m * n) n (rowsFilled f n m l) (y * n + x) d
+      (omega (arith, suc-mul y n, mul-le-mul-right {m = suc y} {n = m} n (omega arith)))
       ∙ rows-at f n m l x y d h (omega arith) (omega (arith, suc-mul m n))
 ]

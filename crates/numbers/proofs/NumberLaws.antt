@@ -68,27 +68,34 @@ both true true true true true false w z = refl
 both true true true true false t w z = refl
 
 module _ (a b : Area) (c r : ℕ) where
-  areas : inside a c r && inside b c r ≡ ((leb (a .x0) c && leb (b .x0) c) && (leb c (a .x1) && leb c (b .x1))) && (leb (a .y0) r && leb r (a .y1) && leb (b .y0) r && leb r (b .y1))
+  areas : inside a c r && inside b c r
+      ≡ ((leb (a .x0) c && leb (b .x0) c) && (leb c (a .x1) && leb c (b .x1)))
+      && (leb (a .y0) r && leb r (a .y1) && leb (b .y0) r && leb r (b .y1))
   unfolding inside
-  areas = both (leb (a .x0) c) (leb c (a .x1)) (leb (a .y0) r) (leb r (a .y1)) (leb (b .x0) c) (leb c (b .x1)) (leb (b .y0) r) (leb r (b .y1))
+  areas =
+      both (leb (a .x0) c) (leb c (a .x1)) (leb (a .y0) r) (leb r (a .y1)) (leb (b .x0) c) (leb c (b .x1)) (leb (b .y0) r) (leb r (b .y1))
 
-  by-row : (n : ℕ → ℕ) → pick (leb (rowAt a b r .lo) c && leb c (rowAt a b r .hi)) (n (rowAt a b r .row)) 255 ≡ pick (inside a c r && inside b c r) (n r) 255
+  by-row : (n : ℕ → ℕ)
+      → pick (leb (rowAt a b r .lo) c && leb c (rowAt a b r .hi)) (n (rowAt a b r .row)) 255 ≡ pick (inside a c r && inside b c r) (n r) 255
   unfolding rowAt
   by-row n = by-cases (leb (a .y0) r && leb r (a .y1) && leb (b .y0) r && leb r (b .y1))
       (λ h. rw (areas, h, always, leb-max, leb-min))
       (λ h. rw (areas, h, none-in, never))
 
 pub number-by-row : (p : Pixels) (old new : List ℕ) (y x : ℕ) →
-    numberIn (rowAt (p .active) (p .area) (shownAt (p .rows) (p .active .y0) (p .active .y1) y)) (p .white) old new (shownAt (p .columns) (p .active .x0) (p .active .x1) x)
+    numberIn (rowAt (p .active) (p .area) (shownAt (p .rows) (p .active .y0) (p .active .y1) y)) (p .white) old new
+    (shownAt (p .columns) (p .active .x0) (p .active .x1) x)
     ≡ numberOf p old new x y
 unfolding numberIn numberOf
 number-by-row p old new y x =
     let c = shownAt (p .columns) (p .active .x0) (p .active .x1) x in
-    by-row (p .active) (p .area) c (shownAt (p .rows) (p .active .y0) (p .active .y1) y) (λ r. tableOf (eqb (bitAt old c r) (p .white)) (eqb (bitAt new c r) (p .white)))
+    by-row (p .active) (p .area) c (shownAt (p .rows) (p .active .y0) (p .active .y1) y)
+    (λ r. tableOf (eqb (bitAt old c r) (p .white)) (eqb (bitAt new c r) (p .white)))
 
 -- ---- looking for 255
 module _ (l : List ℕ) (i : ℕ) where
-  pub undriven-next : i < length l → (any : Bool) → (any || eqb (getD l i 0) 255) || someUndriven (drop (i + 1) l) ≡ any || someUndriven (drop i l)
+  pub undriven-next : i < length l → (any : Bool)
+      → (any || eqb (getD l i 0) 255) || someUndriven (drop (i + 1) l) ≡ any || someUndriven (drop i l)
   undriven-next h true = refl
   undriven-next h false = rw (drop-cons l i 0 h, add-one i)
 
@@ -119,7 +126,8 @@ module _ (s : Scan) (q : Row) (x : ℕ) (h : wholeByte s q x ≡ true) where
       leb-true (x + 8) (s .count) (all-four (eqb (x % 8) 0) (leb (x + 8) (s .count)) (leb (q .lo) x) (leb (x + 7) (q .hi)) (e .2) .1)
 
   pub whole-numbers : (white first last : ℕ) (old new : List ℕ) (k : ℕ) → k < 8 →
-      numberOfBit (getD old (q .row * 100 + x / 8) 0) (getD new (q .row * 100 + x / 8) 0) white k ≡ numberIn q white old new (shownAt s first last (x + k))
+      numberOfBit (getD old (q .row * 100 + x / 8) 0) (getD new (q .row * 100 + x / 8) 0) white k
+      ≡ numberIn q white old new (shownAt s first last (x + k))
   unfolding wholeByte byteInside shownAt numberIn bitAt
   whole-numbers white first last old new k l =
       let e = in-order (s .reversed) (s .straight) (byteInside (s .count) q x) h in

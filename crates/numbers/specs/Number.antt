@@ -35,7 +35,9 @@ nowhere = 65_536
 
 -- the bit of the first 00 byte, if clear, then mirrors it: first + last of the start and resolution area, less it; below 0 is nowhere
 unfoldable pub shownAt : Scan → ℕ → ℕ → ℕ → ℕ
-shownAt s first last v = pick (s .straight) (reversedOf s v) (pick (leb (reversedOf s v) (first + last)) (first + last - reversedOf s v) nowhere)
+shownAt s first last v =
+    pick (s .straight) (reversedOf s v)
+    (pick (leb (reversedOf s v) (first + last)) (first + last - reversedOf s v) nowhere)
 
 -- WW 1, KW 2, WK 3, KK 4, by whether the old and the new bit are white
 unfoldable pub tableOf : Bool → Bool → ℕ

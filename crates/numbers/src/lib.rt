@@ -285,7 +285,10 @@ fn number_some(
     x: u16,
 ) -> u16
     requires { ⌜ (at < 2 ^ 32) × (x < columns .count) ⌝ }
-    ensures { λ r. ⌜ Some r x (columns .count) × (now (numbers .exit) ≡ filled (λ k. numberIn row white (now (old .entry)) (now (new .entry)) (shownAt columns (active .x0) (active .x1) (x + k))) (at + x) r (now (numbers .entry))) ⌝ }
+    ensures { λ r. ⌜ Some r x (columns .count)
+        × (now (numbers .exit) ≡ filled
+        (λ k. numberIn row white (now (old .entry)) (now (new .entry)) (shownAt columns (active .x0) (active .x1) (x + k)))
+        (at + x) r (now (numbers .entry))) ⌝ }
 {
     if whole_byte(columns, row, x) {
         let place = row.row as usize * 100 + x as usize / 8;
@@ -316,7 +319,9 @@ fn number_row(
     white: u8,
 )
     requires { ⌜ at < 2 ^ 32 ⌝ }
-    ensures { λ r. ⌜ now (numbers .exit) ≡ filled (λ x. numberIn row white (now (old .entry)) (now (new .entry)) (shownAt columns (active .x0) (active .x1) x)) at (columns .count) (now (numbers .entry)) ⌝ }
+    ensures { λ r. ⌜ now (numbers .exit)
+        ≡ filled (λ x. numberIn row white (now (old .entry)) (now (new .entry)) (shownAt columns (active .x0) (active .x1) x))
+        at (columns .count) (now (numbers .entry)) ⌝ }
 {
     let count = columns.count;
     let mut x: u16 = 0;
@@ -328,7 +333,8 @@ fn number_row(
 
 // The number of each pixel, row by row of the panel.
 pub fn numbers(numbers: &mut [u8], old: &[u8], new: &[u8], p: Pixels)
-    ensures { λ r. ⌜ now (numbers .exit) ≡ rowsFilled (numberOf p (now (old .entry)) (now (new .entry))) (p .columns .count) (p .rows .count) (now (numbers .entry)) ⌝ }
+    ensures { λ r. ⌜ now (numbers .exit)
+        ≡ rowsFilled (numberOf p (now (old .entry)) (now (new .entry))) (p .columns .count) (p .rows .count) (now (numbers .entry)) ⌝ }
 {
     let columns = p.columns;
     let rows = p.rows;

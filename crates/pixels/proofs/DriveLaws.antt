@@ -21,7 +21,8 @@ use Rattle.pixels.proofs.ListLaws.{beside-length, beside-at, beside-pas
 use Rattle.pixels.proofs.StateLaws.{states-in-range, in-range-states}
 
 -- ---- what belongs to a table number
-pub number-none : {A : Type 0} (ww kw wk kk none : A) (n : ℕ) → (n ≡ 1 → ⊥) → (n ≡ 2 → ⊥) → (n ≡ 3 → ⊥) → (n ≡ 4 → ⊥) → byNumber ww kw wk kk none n ≡ none
+pub number-none : {A : Type 0} (ww kw wk kk none : A) (n : ℕ) → (n ≡ 1 → ⊥) → (n ≡ 2 → ⊥) → (n ≡ 3 → ⊥) → (n ≡ 4 → ⊥)
+    → byNumber ww kw wk kk none n ≡ none
 unfolding byNumber
 number-none ww kw wk kk none n p q r s = rw (ne-eqb n 1 p, ne-eqb n 2 q, ne-eqb n 3 r, ne-eqb n 4 s)
 
@@ -56,7 +57,8 @@ driven-at ww kw wk kk numbers states i h = elim (decLe (length numbers) i) [
   | no k ↦ beside-at (movedBy ww kw wk kk) i numbers states 255 (pos 0) (omega arith) h
 ]
 
-pub driven-length : (ww kw wk kk : Transfer) (numbers : List ℕ) (states : List ℤ) → length (driven ww kw wk kk numbers states) ≡ length states
+pub driven-length : (ww kw wk kk : Transfer) (numbers : List ℕ) (states : List ℤ)
+    → length (driven ww kw wk kk numbers states) ≡ length states
 driven-length ww kw wk kk numbers states = beside-length (movedBy ww kw wk kk) numbers states
 
 -- ---- transfers that act as the frames f 1 .. f 4
@@ -84,9 +86,11 @@ module _ (s : ℕ) (ww kw wk kk : Transfer) (f : ℕ → List ℤ) (b : s ≤ mo
       driven-at ww kw wk kk numbers states i h
       ∙ state-walk (getD numbers i 255) (getD states i (pos 0)) (states-in-range s states e i h)
 
-  pub driven-in-range : (numbers : List ℕ) (states : List ℤ) → everyState s states ≡ true → everyState s (driven ww kw wk kk numbers states) ≡ true
+  pub driven-in-range : (numbers : List ℕ) (states : List ℤ) → everyState s states ≡ true
+      → everyState s (driven ww kw wk kk numbers states) ≡ true
   driven-in-range numbers states e =
-      in-range-states s (driven ww kw wk kk numbers states) (λ i h. within i (subst (λ (n : ℕ). i < n) (driven-length ww kw wk kk numbers states) h))
+      in-range-states s (driven ww kw wk kk numbers states)
+      (λ i h. within i (subst (λ (n : ℕ). i < n) (driven-length ww kw wk kk numbers states) h))
     where
       within : (i : ℕ) → i < length states → InRange s (getD (driven ww kw wk kk numbers states) i (pos 0))
       within i k =

@@ -63,7 +63,8 @@ module _ {A B : Type 0} (f : B → A → A) where
   beside-suc i [] l e d h k = absurd (not-suc-le-zero h)
   beside-suc i (b ∷ bs) [] e d h k = absurd (not-suc-le-zero k)
   beside-suc zero (b ∷ bs) (x ∷ l) e d h k = refl
-  beside-suc (suc i) (b ∷ bs) (x ∷ l) e d h k = ap (λ (t : List A). f b x ∷ t) (beside-suc i bs l e d (le-of-suc-le-suc h) (le-of-suc-le-suc k))
+  beside-suc (suc i) (b ∷ bs) (x ∷ l) e d h k =
+      ap (λ (t : List A). f b x ∷ t) (beside-suc i bs l e d (le-of-suc-le-suc h) (le-of-suc-le-suc k))
 
   beside-done : (i : ℕ) (bs : List B) (l : List A) → min (length l) (length bs) ≤ i → beside f (take i bs) l ≡ beside f bs l
   beside-done zero [] l h = refl
@@ -81,7 +82,8 @@ module _ {A B : Type 0} (f : B → A → A) where
   changed-more bs l₀ l i e d v c h k q = record {
     is =
         (λ t. set (c .is t) i (q t))
-        ∙ ap (λ (x : A). set (beside f (take i bs) l₀) i (f (getD bs i e) x)) (ap (λ (t : List A). getD t i d) (c .is) ∙ beside-next i bs l₀ d)
+        ∙ ap (λ (x : A). set (beside f (take i bs) l₀) i (f (getD bs i e) x))
+        (ap (λ (t : List A). getD t i d) (c .is) ∙ beside-next i bs l₀ d)
         ∙ rw (add-one i) (beside-suc i bs l₀ e d h k);
     long = length-set l i v ∙ c .long;
   }
@@ -90,7 +92,8 @@ module _ {A B : Type 0} (f : B → A → A) where
   changed-done bs l₀ l i c h = c .is ∙ beside-done i bs l₀ h
 
   -- an entry afterwards: with something beside it, and without
-  pub beside-at : (i : ℕ) (bs : List B) (l : List A) (e : B) (d : A) → i < length bs → i < length l → getD (beside f bs l) i d ≡ f (getD bs i e) (getD l i d)
+  pub beside-at : (i : ℕ) (bs : List B) (l : List A) (e : B) (d : A) → i < length bs → i < length l
+      → getD (beside f bs l) i d ≡ f (getD bs i e) (getD l i d)
   beside-at i [] l e d h k = absurd (not-suc-le-zero h)
   beside-at i (b ∷ bs) [] e d h k = absurd (not-suc-le-zero k)
   beside-at zero (b ∷ bs) (x ∷ l) e d h k = refl

@@ -1,4 +1,5 @@
--- What refusal 7's tests say: a state that passes is a number from 0 to the full swing, and the other way round; which bytes are table numbers.
+-- What refusal 7's tests say: a state that passes is a number from 0 to the full swing, and the other way round;
+-- which bytes are table numbers.
 use mathlib.Core.Path.{_≡_, refl, sym, ap, subst}
 use mathlib.Core.Bool.{Bool, true, false}
 use mathlib.Core.List.{List}

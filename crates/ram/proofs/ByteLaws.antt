@@ -1,4 +1,5 @@
--- The bits of a byte: one that is put is read back and the others stay, by one test that antt computes at every byte, bit and value; and a byte is known by its bits.
+-- The bits of a byte: one that is put is read back and the others stay, by one test that antt computes at every byte, bit and value;
+-- and a byte is known by its bits.
 use mathlib.Core.Path.{_≡_, refl, sym, ap, _∙_}
 use mathlib.Core.Bool.{Bool, _&&_}
 use Prim.Native.Nat.{ℕ, zero, suc, _+_, _-_, _*_, _/_, _%_, _^_, _<_, _≤_}
@@ -36,7 +37,8 @@ right b k v hb hk hv =
 
 pub with-bit-byte : (b k v : ℕ) → b < 256 → k < 8 → v < 2 → withBit b k v < 256
 unfolding right-byte
-with-bit-byte b k v hb hk hv = ltb→lt (withBit b k v) 256 (both (ltb (withBit b k v) 256) (below 8 (right-bit b k v)) (right b k v hb hk hv) .0)
+with-bit-byte b k v hb hk hv =
+    ltb→lt (withBit b k v) 256 (both (ltb (withBit b k v) 256) (below 8 (right-bit b k v)) (right b k v hb hk hv) .0)
 
 pub with-bit-reads : (b k v j : ℕ) → b < 256 → k < 8 → v < 2 → j < 8 → bitOf (withBit b k v) j ≡ pick (eqb j k) v (bitOf b j)
 unfolding right-byte right-bit
@@ -86,7 +88,9 @@ merge-byte old new k n h l =
 merge-new : (old new k n i : ℕ) → old < 256 → k + n ≤ 8 → i < n → bitOf (merge old new k n) (k + i) ≡ bitOf new (k + i)
 merge-new old new k zero i h l m = absurd (omega arith)
 merge-new old new k (suc n) i h l m =
-    let put = with-bit-reads (merge old new k n) (k + n) (bitOf new (k + n)) (k + i) (merge-byte old new k n h (omega arith)) (omega arith) (bit-small new (k + n)) (omega arith) in
+    let put =
+    with-bit-reads (merge old new k n) (k + n) (bitOf new (k + n)) (k + i)
+    (merge-byte old new k n h (omega arith)) (omega arith) (bit-small new (k + n)) (omega arith) in
     elim (decLe n i) [
       | yes e ↦ let s : i ≡ n = omega arith in put ∙ rw s (rw (eq-eqb (k + n) (k + n) refl))
       | no ne ↦ put ∙ rw (ne-eqb (k + i) (k + n) (λ s. omega arith)) (merge-new old new k n i h (omega arith) (omega arith))

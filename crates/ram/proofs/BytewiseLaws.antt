@@ -1,4 +1,5 @@
--- Bits that are put one after the other into one byte of a plane are that byte stored once, and whole bytes copied bit by bit are stored one after the other.
+-- Bits that are put one after the other into one byte of a plane are that byte stored once,
+-- and whole bytes copied bit by bit are stored one after the other.
 use mathlib.Core.Path.{_≡_, refl, sym, ap, _∙_}
 use mathlib.Core.Bool.{true, _&&_}
 use mathlib.Core.List.{List}
@@ -30,7 +31,8 @@ pub same-bit : (x i : ℕ) → x % 8 + i < 8 → (x + i) % 8 ≡ x % 8 + i
 same-bit x i h = omega arith
 
 -- one bit more in the byte that was stored last
-put-again : (p : List ℕ) (x y i c v : ℕ) → x % 8 + i < 8 → putBit (set p (place x y) c) (x + i) y v ≡ set p (place x y) (withBit c (x % 8 + i) v)
+put-again : (p : List ℕ) (x y i c v : ℕ) → x % 8 + i < 8
+    → putBit (set p (place x y) c) (x + i) y v ≡ set p (place x y) (withBit c (x % 8 + i) v)
 unfolding putBit
 put-again p x y i c v h = rw (same-place x y i h, same-bit x i h) (elim (decLe (length p) (place x y)) [
   | yes out ↦ rw (set-out p (place x y) c out) (set-out p (place x y) _ out ∙ sym (set-out p (place x y) _ out))
@@ -46,7 +48,8 @@ bits-stored p x y (suc n) b h =
     (put-again p x y n (merge (getD p (place x y) 0) b (x % 8) n) (bitOf b (x % 8 + n)) (omega arith))
 
 -- a byte of the plane that lies inside the area is stored whole
-pub whole-written : (p : List ℕ) (a : Area) (x y b : ℕ) → Bytes p → b < 256 → wholeByte a x y ≡ true → written p a x y b ≡ set p (place x y) b
+pub whole-written : (p : List ℕ) (a : Area) (x y b : ℕ) → Bytes p → b < 256 → wholeByte a x y ≡ true
+    → written p a x y b ≡ set p (place x y) b
 unfolding written putInside wholeByte
 whole-written p a x y b hp hb e =
     let r = and-both (eqb (x % 8) 0 && inside a x y) (inside a (x + 7) y) e in
@@ -62,22 +65,27 @@ pub bits-copied : (old new : List ℕ) (x y n : ℕ) → x % 8 + n ≤ 8
     → copiedBits old new x y n ≡ set old (place x y) (merge (getD old (place x y) 0) (getD new (place x y) 0) (x % 8) n)
 unfolding bitAt
 bits-copied old new x y n h =
-    turns-same n (λ i q. putBit q (x + i) y (bitAt new (x + i) y)) (λ i q. putBit q (x + i) y (bitOf (getD new (place x y) 0) (x % 8 + i))) old
+    turns-same n (λ i q. putBit q (x + i) y (bitAt new (x + i) y))
+    (λ i q. putBit q (x + i) y (bitOf (getD new (place x y) 0) (x % 8 + i))) old
     (λ i q l. rw (same-place x y i (omega arith), same-bit x i (omega arith)))
     ∙ bits-stored old x y n (getD new (place x y) 0) h
 
 -- bits copied in two runs are copied in one
 pub copied-join : (old new : List ℕ) (x y m n : ℕ) → copiedBits (copiedBits old new x y m) new (x + m) y n ≡ copiedBits old new x y (m + n)
 copied-join old new x y m n =
-    turns-same n (λ i q. putBit q (x + m + i) y (bitAt new (x + m + i) y)) (λ i q. putBit q (x + (m + i)) y (bitAt new (x + (m + i)) y)) (copiedBits old new x y m)
+    turns-same n (λ i q. putBit q (x + m + i) y (bitAt new (x + m + i) y))
+    (λ i q. putBit q (x + (m + i)) y (bitAt new (x + (m + i)) y)) (copiedBits old new x y m)
     (λ i q l. rw (add-assoc x m i))
     ∙ turns-join m n (λ i q. putBit q (x + i) y (bitAt new (x + i) y)) old
 
 still-bytes : (old new : List ℕ) (at n : ℕ) → Bytes old → Bytes new → Bytes (copiedBytes old new at n)
-still-bytes old new at n h l = turns-keep Bytes n (λ i p. set p (at + i) (getD new (at + i) 0)) old (λ i p m s. bytes-set p (at + i) (getD new (at + i) 0) s (l (at + i))) h
+still-bytes old new at n h l =
+    turns-keep Bytes n (λ i p. set p (at + i) (getD new (at + i) 0)) old
+    (λ i p m s. bytes-set p (at + i) (getD new (at + i) 0) s (l (at + i))) h
 
 -- whole bytes copied bit by bit are copied byte by byte
-pub whole-copied : (old new : List ℕ) (x y n : ℕ) → x % 8 ≡ 0 → Bytes old → Bytes new → copiedBits old new x y (n * 8) ≡ copiedBytes old new (place x y) n
+pub whole-copied : (old new : List ℕ) (x y n : ℕ) → x % 8 ≡ 0 → Bytes old → Bytes new
+    → copiedBits old new x y (n * 8) ≡ copiedBytes old new (place x y) n
 whole-copied old new x y zero z h l = refl
 whole-copied old new x y (suc n) z h l =
     let p = copiedBytes old new (place x y) n in
@@ -87,4 +95,7 @@ whole-copied old new x y (suc n) z h l =
     ∙ sym (copied-join old new x y (n * 8) 8)
     ∙ ap (λ (q : List ℕ). copiedBits q new (x + n * 8) y 8) (whole-copied old new x y n z h l)
     ∙ bits-copied p new (x + n * 8) y 8 (omega arith)
-    ∙ rw (at, aligned) (ap (set p (place x y + n)) (merge-whole (getD p (place x y + n) 0) (getD new (place x y + n) 0) (still-bytes old new (place x y) n h l (place x y + n)) (l (place x y + n))))
+    ∙ rw (at, aligned)
+    (ap (set p (place x y + n))
+    (merge-whole (getD p (place x y + n) 0) (getD new (place x y + n) 0)
+    (still-bytes old new (place x y) n h l (place x y + n)) (l (place x y + n))))

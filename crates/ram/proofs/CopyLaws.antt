@@ -36,7 +36,8 @@ module _ (new : List ℕ) (x y n : ℕ) where
   bits-same old x' h room first last within =
       let column : x + (x' - x) ≡ x' = omega arith in
       subst (λ (c : ℕ). bitAt (copiedBits old new x y n) c y ≡ bitAt new c y) column
-      (row-same x y (λ k. true) (λ k. bitAt new (x + k) y) (λ k. bit-at-small new (x + k) y) old n (x' - x) h (λ k l t. omega arith) (omega arith) refl
+      (row-same x y (λ k. true) (λ k. bitAt new (x + k) y) (λ k. bit-at-small new (x + k) y) old n
+      (x' - x) h (λ k l t. omega arith) (omega arith) refl
       (rw column within))
 
 -- the first m rows of the area
@@ -56,7 +57,8 @@ module _ (old new : List ℕ) (a : Area) where
 
   module _ (h : Bytes old) (hc : a .x1 ≤ 799) (x' y' : ℕ) (hx : x' < 800) where
     -- the bit of a column or a row that is not among those of the area
-    row-kept : (m : ℕ) → (a .x0 ≤ x' → x' ≤ a .x1 → y' ≡ a .y0 + m → ⊥) → bitAt (rowsTo old new a (suc m)) x' y' ≡ bitAt (rowsTo old new a m) x' y'
+    row-kept : (m : ℕ) → (a .x0 ≤ x' → x' ≤ a .x1 → y' ≡ a .y0 + m → ⊥)
+        → bitAt (rowsTo old new a (suc m)) x' y' ≡ bitAt (rowsTo old new a m) x' y'
     row-kept m apart = elim (decLe (a .x0) (a .x1)) [
       | yes some ↦
           bits-other new (a .x0) (a .y0 + m) (a .x1 + 1 - a .x0) (rowsTo old new a m) x' y' (bytes-rows m h) (omega arith) hx

@@ -1,4 +1,5 @@
--- A bit that is put is read back, and every other bit of the plane stays: alone, and in a run along a row. Lengths stay, and entries stay bytes.
+-- A bit that is put is read back, and every other bit of the plane stays: alone, and in a run along a row.
+-- Lengths stay, and entries stay bytes.
 use mathlib.Core.Path.{_≡_, refl, sym, ap, _∙_}
 use mathlib.Core.Bool.{Bool, true}
 use mathlib.Core.List.{List}
@@ -39,7 +40,8 @@ bytes-set p i c h s j = elim (ℕ-discrete j i) [
 
 pub bytes-put : (p : List ℕ) (x y v : ℕ) → Bytes p → v < 2 → Bytes (putBit p x y v)
 unfolding putBit
-bytes-put p x y v h small = bytes-set p (place x y) _ h (with-bit-byte (getD p (place x y) 0) (x % 8) v (h (place x y)) (mod-lt x (omega arith)) small)
+bytes-put p x y v h small =
+    bytes-set p (place x y) _ h (with-bit-byte (getD p (place x y) 0) (x % 8) v (h (place x y)) (mod-lt x (omega arith)) small)
 
 pub bit-put-same : (p : List ℕ) (x y v : ℕ) → Bytes p → v < 2 → place x y < length p → bitAt (putBit p x y v) x y ≡ v
 unfolding bitAt putBit
@@ -85,20 +87,24 @@ module _ (x y : ℕ) (on : ℕ → Bool) (v : ℕ → ℕ) (small : (k : ℕ) �
   row-other p (suc n) x' y' h room hx apart =
       let before = row-other p n x' y' h (λ k l. room k (omega arith)) hx (λ k l. apart k (omega arith)) in
       by-cases (on n)
-      (λ t. rw t (bit-put-other (turns n (rowStep x y on v) p) (x + n) y (v n) x' y' (bytes-row p n h) (small n) (room n (omega arith) t) hx (apart n (omega arith) t) ∙ before))
+      (λ t. rw t (bit-put-other (turns n (rowStep x y on v) p) (x + n) y (v n) x' y' (bytes-row p n h)
+      (small n) (room n (omega arith) t) hx (apart n (omega arith) t) ∙ before))
       (λ t. rw t before)
 
   -- a bit that a step puts
-  pub row-same : (p : List ℕ) (n k : ℕ) → Bytes p → ((k : ℕ) → k < n → on k ≡ true → x + k < 800) → k < n → on k ≡ true → place (x + k) y < length p
+  pub row-same : (p : List ℕ) (n k : ℕ) → Bytes p → ((k : ℕ) → k < n → on k ≡ true → x + k < 800) → k < n → on k ≡ true
+      → place (x + k) y < length p
       → bitAt (turns n (rowStep x y on v) p) (x + k) y ≡ v k
   row-same p zero k h room l t within = absurd (omega arith)
   row-same p (suc n) k h room l t within = elim (ℕ-discrete k n) [
     | yes e ↦
         rw (ap on (sym e) ∙ t)
-        (rw e (bit-put-same (turns n (rowStep x y on v) p) (x + n) y (v n) (bytes-row p n h) (small n) (rw (length-row p n) (rw e at within))))
+        (rw e (bit-put-same (turns n (rowStep x y on v) p) (x + n) y (v n)
+        (bytes-row p n h) (small n) (rw (length-row p n) (rw e at within))))
     | no ne ↦
         let before = row-same p n k h (λ j m. room j (omega arith)) (omega (arith, ne)) t within in
         by-cases (on n)
-        (λ s. rw s (bit-put-other (turns n (rowStep x y on v) p) (x + n) y (v n) (x + k) y (bytes-row p n h) (small n) (room n (omega arith) s) (room k l t) (λ e f. ne (omega arith)) ∙ before))
+        (λ s. rw s (bit-put-other (turns n (rowStep x y on v) p) (x + n) y (v n) (x + k) y (bytes-row p n h) (small n)
+        (room n (omega arith) s) (room k l t) (λ e f. ne (omega arith)) ∙ before))
         (λ s. rw s before)
   ]

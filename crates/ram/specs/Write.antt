@@ -1,4 +1,5 @@
--- Document 01, "A data byte": 10 and 13 put eight bits from the cursor, highest first, only inside the written area, and the cursor goes on.
+-- Document 01, "A data byte": 10 and 13 put eight bits from the cursor, highest first,
+-- only inside the written area, and the cursor goes on.
 use mathlib.Core.List.{List}
 use Prim.Native.Nat.{ℕ, _+_, min}
 use lib.Dec.{ltb}

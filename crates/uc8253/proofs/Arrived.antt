@@ -8,7 +8,9 @@ use Rattle.diagnostic.specs.declared.DiagnosticKind.{DiagnosticKind}
 use lib.IntN.{ℤ}
 use Rattle.pixels.specs.States.{most, everyState}
 use Rattle.controller.specs.declared.Uc8253.{Uc8253}
-use Rattle.controller.specs.World.{World, Buffers, world, withNow, withRows, tell}
+use Rattle.controller.specs.World.{World, Buffers, world}
+use Rattle.controller.specs.Setters.{withNow, withRows}
+use Rattle.controller.specs.Tell.{tell}
 use Rattle.controller.specs.Arrives.{endedBy, ended, arrived}
 use Rattle.controller.specs.TurnedBack.{refreshRuns, endsRefresh}
 use mathlib.Core.List.{List}
@@ -28,19 +30,22 @@ arrived-early t n w e h =
     rw (e, lt-leb (w .chip .operation .until) (max (w .chip .now) t) h′)
 
 -- a refresh whose end has come ends in this call
-pub ends-due : (a : Bool) (t n : ℕ) (p : Uc8253) → n ≡ max (p .now) t → p .operation .until ≤ n → refreshRuns (p .operation .work) ≡ true → endsRefresh a t p ≡ true
+pub ends-due : (a : Bool) (t n : ℕ) (p : Uc8253) → n ≡ max (p .now) t → p .operation .until ≤ n → refreshRuns (p .operation .work) ≡ true
+    → endsRefresh a t p ≡ true
 unfolding endsRefresh
 ends-due a t n p e h r =
     let h′ : p .operation .until ≤ max (p .now) t = subst (λ (m : ℕ). p .operation .until ≤ m) e h in
     rw (r, le-leb (p .operation .until) (max (p .now) t) h′)
 
 -- a diagnostic leaves the configuration
-pub kept-config : (k : DiagnosticKind) (p q : Uc8253) (l l′ : List ℕ) (b : Buffers) → world q (withRows l′ b) ≡ tell k (world p (withRows l b)) → q .config ≡ p .config
+pub kept-config : (k : DiagnosticKind) (p q : Uc8253) (l l′ : List ℕ) (b : Buffers)
+    → world q (withRows l′ b) ≡ tell k (world p (withRows l b)) → q .config ≡ p .config
 unfolding tell
 kept-config k p q l l′ b e = ap (λ (w : World). w .chip .config) e
 
 -- and so what the end of a refresh asks of the states
-pub kept-ready : (k : DiagnosticKind) (p q : Uc8253) (l l′ : List ℕ) (b : Buffers) (states : List ℤ) → world q (withRows l′ b) ≡ tell k (world p (withRows l b))
+pub kept-ready : (k : DiagnosticKind) (p q : Uc8253) (l l′ : List ℕ) (b : Buffers) (states : List ℤ)
+    → world q (withRows l′ b) ≡ tell k (world p (withRows l b))
     → (p .config .optics .«full_swing» ≤ most) × (everyState (p .config .optics .«full_swing») states ≡ true)
     → (q .config .optics .«full_swing» ≤ most) × (everyState (q .config .optics .«full_swing») states ≡ true)
 kept-ready k p q l l′ b states e h =

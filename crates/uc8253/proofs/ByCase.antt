@@ -7,7 +7,8 @@ use Rattle.controller.specs.declared.Uc8253.{Uc8253}
 use Rattle.controller.specs.declared.notes.Note.{Note}
 use Rattle.diagnostic.specs.declared.DiagnosticKind.{DiagnosticKind}
 use Rattle.controller.specs.declared.Refresh.{Refresh}
-use Rattle.controller.specs.World.{World, Buffers, world, tell}
+use Rattle.controller.specs.World.{World, Buffers, world}
+use Rattle.controller.specs.Tell.{tell}
 use Rattle.controller.specs.Arrives.{endedBy}
 use Rattle.controller.specs.Refresh.{refreshedBy, cutRefresh}
 use Rattle.controller.specs.TurnedBack.{cuts}

@@ -4,7 +4,7 @@ use mathlib.Core.Bool.{Bool, true, false, _&&_, _||_, not, false≢true}
 use Prim.Native.Nat.{ℕ, _≤_, max}
 use native.Mathlib.Omega.{arith}
 use lib.Dec.{eqb, leb}
-use borrow.Author.Tests.{eq-eqb, ne-eqb, eqb-true}
+use borrow.Author.Tests.{eqb-true}
 use Rattle.base.specs.Pick.{pick}
 use Rattle.base.proofs.Cases.{by-cases}
 use Rattle.config.specs.declared.Uc8253Config.{Uc8253Config}
@@ -26,25 +26,26 @@ use Rattle.registers.specs.Flags.{copiesNewToOld}
 use Rattle.controller.specs.Refresh.{allFrames, endedRefresh, copiedAfter, finished}
 use Rattle.controller.specs.Reading.{readOf}
 use Rattle.controller.specs.Calls.{called, readAnswer}
+use Rattle.controller.specs.Ask.{byte}
 
--- ---- the two ways of a call
-module _ (a : Bool) (t : ℕ) (w : World) (n : ℕ) (e : n ≡ turnedBack a t w) where
-  pub called-no : (f : World → World) → (n ≡ 0 → ⊥) → w ≡ called a t f w
+-- ---- the two ways of a call, by whether its refusal is none
+module _ (a : Bool) (t : ℕ) (w : World) where
+  pub called-no : (f : World → World) → eqb (turnedBack a t w) 0 ≡ false → w ≡ called a t f w
   unfolding called
-  called-no f h = rw (← e) (rw (ne-eqb n 0 h))
+  called-no f h = rw h
 
-  pub called-yes : (f : World → World) (v : World) → n ≡ 0 → v ≡ f (arrived t w) → v ≡ called a t f w
+  pub called-yes : (f : World → World) (v : World) → eqb (turnedBack a t w) 0 ≡ true → v ≡ f (arrived t w) → v ≡ called a t f w
   unfolding called
-  called-yes f v z h = rw (← e) (rw (eq-eqb n 0 z) h)
+  called-yes f v z h = rw z h
 
-module _ (t : ℕ) (w : World) (n : ℕ) (e : n ≡ turnedBack false t w) where
-  pub read-no : (n ≡ 0 → ⊥) → Nothing ≡ readAnswer t w
+module _ (t : ℕ) (w : World) where
+  pub read-no : eqb (turnedBack false t w) 0 ≡ false → byte Nothing ≡ byte (readAnswer t w)
   unfolding readAnswer
-  read-no h = rw (← e) (rw (ne-eqb n 0 h))
+  read-no h = rw h
 
-  pub read-yes : (r : Read) → n ≡ 0 → r ≡ readOf (arrived t w .chip) → r ≡ readAnswer t w
+  pub read-yes : (r : Read) → eqb (turnedBack false t w) 0 ≡ true → r ≡ readOf (arrived t w .chip) → byte r ≡ byte (readAnswer t w)
   unfolding readAnswer
-  read-yes r z h = rw (← e) (rw (eq-eqb n 0 z) h)
+  read-yes r z h = rw z (ap byte h)
 
 -- ---- what 6 and 7 leave
 none-of : (f l c : Bool) → _≡_ {A = ℕ} (pick f 6 (pick l (pick c 7 0) 5)) 0 → (f ≡ false) × (c ≡ false)
@@ -73,7 +74,8 @@ both-clean true false c h e = sym e
 both-clean false y c h e = absurd (false≢true h)
 
 pub ready : (a : Bool) (t : ℕ) (w : World) → turnedBack a t w ≡ 0
-    → (w .chip .config .optics .«full_swing» ≤ most) × (endsRefresh a t (w .chip) ≡ true → everyState (w .chip .config .optics .«full_swing») (w .lent .states) ≡ true)
+    → (w .chip .config .optics .«full_swing» ≤ most)
+    × (endsRefresh a t (w .chip) ≡ true → everyState (w .chip .config .optics .«full_swing») (w .lent .states) ≡ true)
 unfolding turnedBack foreignContents
 ready a t w e =
     let swing = w .chip .config .optics .«full_swing» in
@@ -96,7 +98,8 @@ ends-anyway a t p e = go (refreshRuns (p .operation .work)) (leb (p .operation .
     go false l c h = h
 
 pub ready-arrive : (a : Bool) (t : ℕ) (w : World) → turnedBack a t w ≡ 0
-    → (w .chip .config .optics .«full_swing» ≤ most) × (endsRefresh false t (w .chip) ≡ true → everyState (w .chip .config .optics .«full_swing») (w .lent .states) ≡ true)
+    → (w .chip .config .optics .«full_swing» ≤ most)
+    × (endsRefresh false t (w .chip) ≡ true → everyState (w .chip .config .optics .«full_swing») (w .lent .states) ≡ true)
 ready-arrive a t w e = (ready a t w e .0, λ h. ready a t w e .1 (ends-anyway a t (w .chip) h))
 
 -- ---- after the arrival
@@ -123,7 +126,8 @@ config-after work.SoftReset w = refl
 config-after work.HardwareReset w = refl
 config-after (work.Refresh r) w = config-copied r (finished (allFrames (w .chip)) (r .kind) false (w .chip .operation .until) w)
 
-cut-ends : (a : Bool) (t : ℕ) (p : Uc8253) → refreshRuns (p .operation .work) ≡ true → cuts (p .mode .power) a ≡ true → endsRefresh a t p ≡ true
+cut-ends : (a : Bool) (t : ℕ) (p : Uc8253) → refreshRuns (p .operation .work) ≡ true → cuts (p .mode .power) a ≡ true
+    → endsRefresh a t p ≡ true
 unfolding endsRefresh
 cut-ends a t p r c = rw (r, c) (either (leb (p .operation .until) (max (p .now) t)))
   where
@@ -134,9 +138,11 @@ cut-ends a t p r c = rw (r, c) (either (leb (p .operation .until) (max (p .now) 
 -- what asserting reset asks of the states
 abbrev pub Ready : Bool → World → Type 0
 Ready a u = (u .chip .config .optics .«full_swing» ≤ most)
-    × (refreshRuns (u .chip .operation .work) ≡ true → cuts (u .chip .mode .power) a ≡ true → everyState (u .chip .config .optics .«full_swing») (u .lent .states) ≡ true)
+    × (refreshRuns (u .chip .operation .work) ≡ true → cuts (u .chip .mode .power) a ≡ true
+    → everyState (u .chip .config .optics .«full_swing») (u .lent .states) ≡ true)
 
-arrived-ready : (a : Bool) (t : ℕ) (w : World) → turnedBack a t w ≡ 0 → (l : Bool) → leb (w .chip .operation .until) (max (w .chip .now) t) ≡ l → Ready a (arrived t w)
+arrived-ready : (a : Bool) (t : ℕ) (w : World) → turnedBack a t w ≡ 0 → (l : Bool)
+    → leb (w .chip .operation .until) (max (w .chip .now) t) ≡ l → Ready a (arrived t w)
 unfolding arrived ended
 arrived-ready a t w e true h =
     rw h (

@@ -8,7 +8,8 @@ use borrow.Author.Tests.{ne-eqb}
 use Rattle.base.proofs.Sorting.{at-key, no-key, Rest}
 use Rattle.controller.proofs.Chain.{yes, no}
 use Rattle.controller.specs.declared.Work.the-variants as work
-use Rattle.controller.specs.World.{World, onChip, withRegs, withDataFlag}
+use Rattle.controller.specs.World.{World, onChip}
+use Rattle.controller.specs.Setters.{withRegs, withDataFlag}
 use Rattle.controller.specs.Arrives.{starting}
 use Rattle.controller.specs.Refresh.{refreshed}
 use Rattle.controller.specs.Command.{executed, withPartial}
@@ -21,11 +22,13 @@ pub pon-on : {c : ℕ} (w : World) → c ≡ 0x04 → w .chip .mode .powered ≡
 unfolding executed
 pon-on {c} w k e = at-key (Made w w) (0x04 ∷ []) c (yes _ e refl, tt) k
 
-pub pon-off : {c : ℕ} {r : World} (w : World) → c ≡ 0x04 → w .chip .mode .powered ≡ false → r ≡ onChip (starting work.PowerOn (w .chip .config .timing .«power_on»)) w → r ≡ executed c w
+pub pon-off : {c : ℕ} {r : World} (w : World) → c ≡ 0x04 → w .chip .mode .powered ≡ false
+    → r ≡ onChip (starting work.PowerOn (w .chip .config .timing .«power_on»)) w → r ≡ executed c w
 unfolding executed
 pon-off {c} {r} w k e h = at-key (Made r w) (0x04 ∷ []) c (no _ e h, tt) k
 
-pub pof-on : {c : ℕ} {r : World} (w : World) → c ≡ 0x02 → w .chip .mode .powered ≡ true → r ≡ onChip (starting work.PowerOff (w .chip .config .timing .«power_off»)) w → r ≡ executed c w
+pub pof-on : {c : ℕ} {r : World} (w : World) → c ≡ 0x02 → w .chip .mode .powered ≡ true
+    → r ≡ onChip (starting work.PowerOff (w .chip .config .timing .«power_off»)) w → r ≡ executed c w
 unfolding executed
 pof-on {c} {r} w k e h = at-key (Made r w) (0x02 ∷ []) c (yes _ e h, tt) k
 

@@ -1,5 +1,5 @@
 -- Making: what a configuration that is not refused gives, and the record and what is lent after it, from what each of the fills left.
-use mathlib.Core.Path.{_≡_, refl, sym, ap, _∙_}
+use mathlib.Core.Path.{_≡_, refl, ap, _∙_}
 use mathlib.Core.Bool.{Bool, true, false}
 use mathlib.Core.List.{List}
 use Prim.Native.Nat.{ℕ, _≤_}
@@ -7,13 +7,12 @@ use native.Mathlib.Omega.{arith}
 use lib.Dec.{eqb}
 use lib.IntN.{ℤ, pos}
 use lib.ListN.{length, replicate}
-use borrow.Author.Tests.{eqb-true, eqb-false, eq-eqb}
+use borrow.Author.Tests.{eqb-true, eqb-false}
 use Rattle.base.specs.Pick.{pick}
 use Rattle.glass.specs.Gray.{levelOf}
 use Rattle.config.specs.declared.Uc8253Config.{Uc8253Config}
 use Rattle.config.specs.Refusal.{refusal}
 use Rattle.config.proofs.RefusalLaws.{accepted}
-use Rattle.registers.specs.Reset.{resetOf}
 use Rattle.pixels.specs.States.{heldOf}
 use Rattle.pixels.proofs.StateLaws.{level-within, held-exact}
 use Rattle.controller.specs.declared.Uc8253.{Uc8253}
@@ -22,7 +21,6 @@ use Rattle.controller.specs.TurnedBack.{lentFits, makingRefused}
 use Rattle.controller.specs.Calls.{firstChip, firstBuffers, zeros, made}
 use Rattle.controller.proofs.Chain.{yes, no}
 use Rattle.controller.proofs.Parts.{lengths}
-use Rattle.uc8253.specs.Steps.{fresh}
 
 -- ---- a making that is not refused
 taken : (n : ℕ) (fits t : Bool) → eqb n 0 ≡ t → pick t (pick fits 0 5) n ≡ 0 → (n ≡ 0) × (fits ≡ true)
@@ -36,7 +34,7 @@ unrefused c b e = taken (refusal c) (lentFits c b) (eqb (refusal c) 0) refl e
 
 -- ---- what each part is after it
 pub record Filled (c : Uc8253Config) (b : Buffers) (chip : Uc8253) (a : Buffers) : Type 0 where
-  pub chip-is : chip ≡ fresh c (resetOf (c .variant))
+  pub chip-is : chip ≡ firstChip c
   pub old-is : a .old ≡ replicate (length (b .old)) 0
   pub new-is : a .new ≡ replicate (length (b .new)) 0
   pub states-is : a .states ≡ replicate (length (b .states)) (heldOf (levelOf (c .optics .«initial_gray») (c .optics .«full_swing»)))
@@ -47,17 +45,15 @@ pub record Filled (c : Uc8253Config) (b : Buffers) (chip : Uc8253) (a : Buffers)
 pub at-level : {l : List ℤ} {x y : ℕ} (n : ℕ) → l ≡ replicate n (heldOf x) → x ≡ y → l ≡ replicate n (heldOf y)
 at-level n e f = rw (← f) e
 
-first-chip : (c : Uc8253Config) → fresh c (resetOf (c .variant)) ≡ firstChip c
-unfolding fresh firstChip
-first-chip c = refl
-
 long : {A : Type 0} {l : List A} {n k : ℕ} (x : A) → l ≡ replicate n x → n ≡ k → l ≡ replicate k x
 long x e f = rw (← f) e
 
-same-buffers : {o o₂ n n₂ m m₂ p p₂ r r₂ : List ℕ} {s s₂ : List ℤ} → o ≡ o₂ → n ≡ n₂ → s ≡ s₂ → m ≡ m₂ → p ≡ p₂ → r ≡ r₂ → buffers o n s m p r ≡ buffers o₂ n₂ s₂ m₂ p₂ r₂
+same-buffers : {o o₂ n n₂ m m₂ p p₂ r r₂ : List ℕ} {s s₂ : List ℤ} → o ≡ o₂ → n ≡ n₂ → s ≡ s₂ → m ≡ m₂ → p ≡ p₂ → r ≡ r₂
+    → buffers o n s m p r ≡ buffers o₂ n₂ s₂ m₂ p₂ r₂
 same-buffers o n s m p r = rw (o, n, s, m, p, r)
 
-first-buffers : (c : Uc8253Config) (b : Buffers) (chip : Uc8253) (a : Buffers) → c .optics .«initial_gray» ≤ 255 → makingRefused c b ≡ 0 → Filled c b chip a → a ≡ firstBuffers c
+first-buffers : (c : Uc8253Config) (b : Buffers) (chip : Uc8253) (a : Buffers) → c .optics .«initial_gray» ≤ 255 → makingRefused c b ≡ 0
+    → Filled c b chip a → a ≡ firstBuffers c
 unfolding firstBuffers
 first-buffers c b chip a g e f =
     let u = unrefused c b e in
@@ -73,16 +69,14 @@ first-buffers c b chip a g e f =
     (long (c .optics .«initial_gray») (f .picture-is) (l .picture))
     (long 0 (f .rows-is) (l .rows))
 
-pub made-first : {r : ℕ} (c : Uc8253Config) (b : Buffers) (chip : Uc8253) (a : Buffers) → c .optics .«initial_gray» ≤ 255 → r ≡ makingRefused c b → r ≡ 0 → Filled c b chip a
-    → (world chip a ≡ made c b) × (0 ≡ makingRefused c b)
+pub made-first : (c : Uc8253Config) (b : Buffers) (chip : Uc8253) (a : Buffers) → c .optics .«initial_gray» ≤ 255
+    → eqb (makingRefused c b) 0 ≡ true → Filled c b chip a → world chip a ≡ made c b
 unfolding made
-made-first c b chip a g q z f =
-    let e = sym q ∙ z in (
-      yes (world zeros b) (eq-eqb (makingRefused c b) 0 e)
-          (ap (λ p. world p a) (f .chip-is ∙ first-chip c) ∙ ap (world (firstChip c)) (first-buffers c b chip a g e f)),
-      sym e,
-    )
+made-first c b chip a g q f =
+    let e = eqb-true (makingRefused c b) 0 q in
+    yes (world zeros b) q (ap (λ p. world p a) (f .chip-is) ∙ ap (world (firstChip c)) (first-buffers c b chip a g e f))
 
-pub made-none : (c : Uc8253Config) (b : Buffers) (chip : Uc8253) → eqb (makingRefused c b) 0 ≡ false → chip ≡ zeros → world chip b ≡ made c b
+pub made-none : (c : Uc8253Config) (b : Buffers) (chip : Uc8253) → eqb (makingRefused c b) 0 ≡ false → chip ≡ zeros
+    → world chip b ≡ made c b
 unfolding made
 made-none c b chip e f = no (world (firstChip c) (firstBuffers c)) e (ap (λ p. world p b) f)

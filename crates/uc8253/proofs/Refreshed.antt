@@ -21,18 +21,22 @@ use Rattle.pixels.specs.Draw.{drawn}
 use Rattle.controller.specs.declared.Refresh.{Refresh}
 use Rattle.controller.specs.declared.Uc8253.{Uc8253}
 use Rattle.controller.specs.declared.Work.the-variants as work
-use Rattle.controller.specs.World.{Buffers, world, buffers, withImage, withOperation, withWaveform}
-use Rattle.controller.specs.Refresh.{walked, published, finished, allFrames, elapsed, copiedAfter, endedRefresh, cutRefresh, waveformNow, numbersNow, kindBy, refreshing, refreshStarted}
+use Rattle.controller.specs.World.{Buffers, world, buffers}
+use Rattle.controller.specs.Setters.{withImage, withOperation, withWaveform}
+use Rattle.controller.specs.Refresh.{walked, published, finished, allFrames, elapsed, copiedAfter, endedRefresh}
+use Rattle.controller.specs.Refresh.{cutRefresh, waveformNow, numbersNow, kindBy, refreshing, refreshStarted}
 use Rattle.uc8253.specs.Steps.{copiedIf}
 
 -- the picture published, and the old plane after it
 copied-parts : (r : Refresh) (t : Bool) (q : Uc8253) (old new : List ℕ) (states : List ℤ) (numbers picture rows : List ℕ)
     → world q (buffers (pick t (copied old new (r .area)) old) new states numbers picture rows)
-    ≡ pick t (world q (buffers (copied old new (r .area)) new states numbers picture rows)) (world q (buffers old new states numbers picture rows))
+    ≡ pick t (world q (buffers (copied old new (r .area)) new states numbers picture rows))
+    (world q (buffers old new states numbers picture rows))
 copied-parts r true q old new states numbers picture rows = refl
 copied-parts r false q old new states numbers picture rows = refl
 
-pub ended-parts : (r : Refresh) (p q : Uc8253) (old new : List ℕ) (states : List ℤ) (numbers picture rows : List ℕ) (old′ : List ℕ) (states′ : List ℤ) (picture′ : List ℕ)
+pub ended-parts : (r : Refresh) (p q : Uc8253) (old new : List ℕ) (states : List ℤ)
+    (numbers picture rows : List ℕ) (old′ : List ℕ) (states′ : List ℤ) (picture′ : List ℕ)
     → states′ ≡ walked (p .config .optics .«full_swing») (allFrames p) numbers states
     → picture′ ≡ drawn (p .config .optics .«full_swing») states′ picture
     → old′ ≡ copiedIf p (r .area) old new
@@ -45,7 +49,8 @@ ended-parts r p q old new states numbers picture rows old′ states′ picture�
     (walked (p .config .optics .«full_swing») (allFrames p) numbers states) numbers
     (drawn (p .config .optics .«full_swing») (walked (p .config .optics .«full_swing») (allFrames p) numbers states) picture) rows
 
-pub cut-parts : (r : Refresh) (p q : Uc8253) (old new : List ℕ) (states : List ℤ) (numbers picture rows : List ℕ) (n : ℕ) (states′ : List ℤ) (picture′ : List ℕ)
+pub cut-parts : (r : Refresh) (p q : Uc8253) (old new : List ℕ) (states : List ℤ)
+    (numbers picture rows : List ℕ) (n : ℕ) (states′ : List ℤ) (picture′ : List ℕ)
     → n ≡ elapsed p
     → states′ ≡ walked (p .config .optics .«full_swing») (λ k. take n (allFrames p k)) numbers states
     → picture′ ≡ drawn (p .config .optics .«full_swing») states′ picture
@@ -63,7 +68,8 @@ noted : (p : Uc8253) (b : Buffers) (px : Pixels) → px ≡ pixelsOf (p .config 
 unfolding numbersNow pixelsOf
 noted p b px e = ap (λ (x : Pixels). rowsFilled (numberOf x (b .old) (b .new)) (x .columns .count) (x .rows .count) (b .numbers)) e
 
-pub start-parts : (p : Uc8253) (old new : List ℕ) (states : List ℤ) (numbers picture rows : List ℕ) (wf : Waveform) (px : Pixels) (ns : List ℕ) (k : RefreshKind) (area : Area) (d end : ℕ)
+pub start-parts : (p : Uc8253) (old new : List ℕ) (states : List ℤ) (numbers picture rows : List ℕ) (wf : Waveform) (px : Pixels)
+    (ns : List ℕ) (k : RefreshKind) (area : Area) (d end : ℕ)
     → wf ≡ waveformNow p
     → px ≡ pixelsOf (p .config .panel) (p .regs) (p .config .variant)
     → ns ≡ rowsFilled (numberOf px old new) (px .columns .count) (px .rows .count) numbers
@@ -71,7 +77,8 @@ pub start-parts : (p : Uc8253) (old new : List ℕ) (states : List ℤ) (numbers
     → k ≡ kindBy ns
     → d ≡ durationOf wf
     → end ≡ min (p .now + d) top
-    → world (withOperation (record { work = work.Refresh (record { area = area; kind = k }); started = p .now; until = end }) (withWaveform wf p)) (buffers old new states ns picture rows)
+    → world (withOperation (record { work = work.Refresh (record { area = area; kind = k }); started = p .now; until = end })
+    (withWaveform wf p)) (buffers old new states ns picture rows)
     ≡ refreshStarted (world p (buffers old new states numbers picture rows))
 unfolding refreshStarted refreshing
 start-parts p old new states numbers picture rows wf px ns k area d end e₁ e₂ e₃ e₄ e₅ e₆ e₇ =

@@ -7,7 +7,7 @@ use native.Mathlib.Nat.{mul-le-mul, mul-le-mul-left, mul-comm, mul-suc}
 use native.Mathlib.Omega.{arith}
 use lib.Dec.{eqb}
 use lib.ListN.{length}
-use borrow.Author.Tests.{eq-eqb, ne-eqb, eqb-true}
+use borrow.Author.Tests.{eqb-true}
 use Rattle.base.specs.Pick.{pick}
 use Rattle.pixels.specs.States.{everyState, everyNumber}
 use Rattle.controller.specs.declared.Uc8253.{Uc8253}
@@ -16,20 +16,14 @@ use Rattle.controller.specs.TurnedBack.{foreignRecord, lentRefused, foreignCont
 use Rattle.controller.specs.Calls.{rowRefused}
 use Rattle.uc8253.specs.Steps.{seven}
 
--- ---- a number that is given, against 0
-pub none : {r x : ℕ} → r ≡ x → r ≡ 0 → eqb x 0 ≡ true
-none {x = x} e z = eq-eqb x 0 (sym e ∙ z)
-
-pub some : {r x : ℕ} → r ≡ x → (r ≡ 0 → ⊥) → eqb x 0 ≡ false
-some {x = x} e n = ne-eqb x 0 (λ z. n (e ∙ z))
-
 -- ---- a question that is not refused
 taken : (a b : Bool) → _≡_ {A = ℕ} (pick a 6 (pick b 0 5)) 0 → b ≡ true
 taken true b e = absurd (omega arith)
 taken false true e = refl
 taken false false e = absurd (omega arith)
 
-pub row-length : (p : Uc8253) (picture : List ℕ) → rowRefused p picture ≡ 0 → length picture ≡ p .config .panel .sources * p .config .panel .gates
+pub row-length : (p : Uc8253) (picture : List ℕ) → rowRefused p picture ≡ 0
+    → length picture ≡ p .config .panel .sources * p .config .panel .gates
 unfolding rowRefused lentRefused
 row-length p picture e =
     eqb-true (length picture) (p .config .panel .sources * p .config .panel .gates)
@@ -53,6 +47,7 @@ sevens true true = refl
 sevens true false = refl
 sevens false n = refl
 
-pub contents : {a : Bool} {r : ℕ} (swing : ℕ) (b : Buffers) → a ≡ true → r ≡ seven swing (b .states) (b .numbers) → r ≡ pick (a && foreignContents swing b) 7 0
+pub contents : {a : Bool} {r : ℕ} (swing : ℕ) (b : Buffers) → a ≡ true → r ≡ seven swing (b .states) (b .numbers)
+    → r ≡ pick (a && foreignContents swing b) 7 0
 unfolding seven foreignContents
 contents swing b e q = rw e (q ∙ sevens (everyState swing (b .states)) (everyNumber (b .numbers)))

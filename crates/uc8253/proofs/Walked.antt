@@ -21,7 +21,8 @@ first-passes false r e = absurd (true≢false (sym e))
 
 module _ (s : ℕ) (ww kw wk kk : Transfer) (f : ℕ → List ℤ) (b : s ≤ most)
     (a₁ : Acts s ww (f 1)) (a₂ : Acts s kw (f 2)) (a₃ : Acts s wk (f 3)) (a₄ : Acts s kk (f 4)) where
-  pub driven-walked : (numbers : List ℕ) (states : List ℤ) → everyState s states ≡ true → driven ww kw wk kk numbers states ≡ walked s f numbers states
+  pub driven-walked : (numbers : List ℕ) (states : List ℤ) → everyState s states ≡ true
+      → driven ww kw wk kk numbers states ≡ walked s f numbers states
   unfolding walked
   driven-walked [] states e = refl
   driven-walked (n ∷ numbers) [] e = refl

@@ -7,24 +7,19 @@ use lib.IntN.{ℤ}
 use denote.Ref.{now}
 use Rattle.base.specs.Pick.{pick}
 use Rattle.command.specs.Kinds.{kindOf}
-use Rattle.config.specs.declared.Uc8253Config.{Uc8253Config}
-use Rattle.glass.specs.declared.RefreshKind.the-variants as shown
 use Rattle.pixels.specs.States.{most, everyState, everyNumber}
 use Rattle.ram.specs.Copy.{copied}
 use Rattle.registers.specs.declared.Area.{Area}
-use Rattle.registers.specs.declared.Registers.{Registers}
 use Rattle.registers.specs.Flags.{copiesNewToOld}
-use Rattle.registers.specs.Luts.{resetLuts}
 use Rattle.controller.specs.declared.Power.the-variants as power
 use Rattle.controller.specs.declared.Work.the-variants as work
-use Rattle.controller.specs.declared.Current.the-variants as current
 use Rattle.controller.specs.declared.Uc8253.{Uc8253}
-use Rattle.controller.specs.World.{World, onChip, withOperation, withPower, withPowered}
+use Rattle.controller.specs.World.{World, onChip}
+use Rattle.controller.specs.Setters.{withOperation, withPower, withPowered}
 use Rattle.controller.specs.Lent.{Slice}
 use Rattle.controller.specs.Arrives.{rest, starting}
 use Rattle.controller.specs.Command.{sortedBy, closed}
 use Rattle.controller.specs.Reset.{cut, cleared}
-use Rattle.controller.specs.Calls.{noWaveform}
 
 -- 7, or 0
 unfoldable pub seven : ℕ → List ℤ → List ℕ → ℕ
@@ -48,21 +43,6 @@ fallen w = onChip cleared (closed (cut w))
 
 abbrev pub risen : Uc8253 → Uc8253
 risen p = starting work.HardwareReset (p .config .timing .«hardware_reset») (withPower power.Running p)
-
--- a record that no call has seen
-unfoldable pub fresh : Uc8253Config → Registers → Uc8253
-fresh c r = record {
-  config = c;
-  regs = r;
-  luts = resetLuts;
-  mode = record { power = power.Running; powered = false; «data_flag» = false };
-  stage = record { current = current.Idle };
-  operation = rest;
-  waveform = noWaveform;
-  image = record { width = c .panel .sources; height = c .panel .gates; generation = 0; kind = shown.PowerOn; interrupted = false; started = 0; at = 0 };
-  log = record { stored = 0; dropped = 0 };
-  now = 0;
-}
 
 -- what driving asks: of the swing, and of the states
 abbrev pub SwingFits : Uc8253 → Type 0

@@ -4,7 +4,7 @@ ghost use Rattle.uc8253.specs.Steps as steps;
 ghost use mathlib.Core.Bool.{true, false};
 ghost use mathlib.Core.List.{List};
 ghost use Prim.Native.Nat.{ℕ};
-ghost use Rattle.controller.specs.World.{withOperation, withPowered};
+ghost use Rattle.controller.specs.Setters.{withOperation, withPowered};
 ghost use Rattle.controller.specs.TurnedBack.{refreshRuns, endsRefresh};
 ghost use Rattle.controller.specs.Arrives as arrives;
 ghost use Rattle.controller.specs.Lent.{kept, Turns};

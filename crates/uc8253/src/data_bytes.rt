@@ -3,7 +3,7 @@ ghost use mathlib.Core.Path.{_≡_};
 ghost use mathlib.Core.List.{List};
 ghost use Prim.Native.Nat.{ℕ};
 ghost use lib.IntN.{ℤ};
-ghost use Rattle.controller.specs.World.{withOld, withNew};
+ghost use Rattle.controller.specs.Setters.{withOld, withNew};
 ghost use Rattle.controller.specs.DataByte as rule;
 ghost use Rattle.controller.specs.Lent.{kept, Turns, TurnsRows, TurnsPlane};
 use crate::telling::start;

@@ -36,9 +36,11 @@ ghost use Rattle.controller.specs.Reset.{resetEdge};
 ghost use Rattle.controller.specs.TurnedBack.{endsRefresh, turnedBack};
 ghost use Rattle.uc8253.specs.Steps as steps;
 ghost use Rattle.controller.specs.World.{world};
-ghost use Rattle.controller.specs.Calls.{commandCall, dataCall, readCall, readAnswer, resetCall, advanceCall};
-ghost use Rattle.controller.specs.Lent.{lent, Turns, Gives, Called};
+ghost use Rattle.base.specs.RefusalNumbers.{refusalNumber};
+ghost use Rattle.controller.specs.Ask as ask;
+ghost use Rattle.controller.specs.Lent.{lent, Turns, Gives, Called, Answers};
 use arriving::arrive;
+use base::Refusal;
 use commands::command_byte;
 use controller::Read;
 use controller::Uc8253;
@@ -52,20 +54,20 @@ use reading::ByteRead;
 use reading::read_byte;
 use resets::reset_edge;
 
-// The record after a call, and the number of the refusal, 0 where the call was taken.
+// The record after a call, and what turned it back, if anything did.
 pub struct Answer {
     pub chip: Uc8253,
-    pub refused: u8,
+    pub refused: Refusal,
 }
 
 // The same for a read, with the byte.
 pub struct ReadAnswer {
     pub chip: Uc8253,
-    pub refused: u8,
+    pub refused: Refusal,
     pub byte: Read,
 }
 
-// 6, 5, 7 of a call at a time, which may assert reset; 0 where none is met.
+// 6, 5, 7 of a call at a time, which may assert reset.
 fn turned_back(
     p: Uc8253,
     at: u64,
@@ -76,11 +78,11 @@ fn turned_back(
     numbers: &[u8],
     picture: &[u8],
     rows: &[u64],
-) -> u8
-    ensures { λ r. ⌜ Gives (turnedBack asserted at) p r old new states numbers picture rows ⌝ }
+) -> Refusal
+    ensures { λ r. ⌜ Gives (turnedBack asserted at) p (refusalNumber r) old new states numbers picture rows ⌝ }
 {
     if foreign(p) {
-        return 6;
+        return Refusal::ForeignRecord;
     }
     let config = p.config;
     if lengths_fit(
@@ -95,22 +97,22 @@ fn turned_back(
         if ends_refresh(p, at, asserted) {
             return foreign_contents(p.config.optics.full_swing, states, numbers);
         }
-        return 0;
+        return Refusal::Nothing;
     }
-    5
+    Refusal::BufferLength
 }
 
 // 7: a state or a table number out of range.
-fn foreign_contents(swing: u64, states: &[i64], numbers: &[u8]) -> u8
-    ensures { λ r. ⌜ r ≡ steps.seven swing (now (states .entry)) (now (numbers .entry)) ⌝ }
+fn foreign_contents(swing: u64, states: &[i64], numbers: &[u8]) -> Refusal
+    ensures { λ r. ⌜ refusalNumber r ≡ steps.seven swing (now (states .entry)) (now (numbers .entry)) ⌝ }
 {
     if all_states(states, swing) {
         if all_numbers(numbers) {
-            return 0;
+            return Refusal::Nothing;
         }
-        return 7;
+        return Refusal::ForeignContents;
     }
-    7
+    Refusal::ForeignContents
 }
 
 // The call arrives, then the command byte.
@@ -201,14 +203,14 @@ pub fn write_command(
     picture: &mut [u8],
     rows: &mut [u64],
 ) -> Answer
-    ensures { λ r. ⌜ Called (commandCall at command) (turnedBack false at) p (r .chip) (r .refused) old new states numbers picture rows ⌝ }
+    ensures { λ r. ⌜ Called (ask.command at command) p (r .chip) (r .refused) old new states numbers picture rows ⌝ }
 {
     let refused = turned_back(p, at, false, old, new, states, numbers, picture, rows);
-    if refused != 0 {
-        return Answer { chip: p, refused };
+    if refused.none() {
+        let chip = command_at(p, at, command, old, new, states, numbers, picture, rows);
+        return Answer { chip, refused };
     }
-    let chip = command_at(p, at, command, old, new, states, numbers, picture, rows);
-    Answer { chip, refused: 0 }
+    Answer { chip: p, refused }
 }
 
 // A data byte (D/C# high).
@@ -223,14 +225,14 @@ pub fn write_data(
     picture: &mut [u8],
     rows: &mut [u64],
 ) -> Answer
-    ensures { λ r. ⌜ Called (dataCall at byte) (turnedBack false at) p (r .chip) (r .refused) old new states numbers picture rows ⌝ }
+    ensures { λ r. ⌜ Called (ask.datum at byte) p (r .chip) (r .refused) old new states numbers picture rows ⌝ }
 {
     let refused = turned_back(p, at, false, old, new, states, numbers, picture, rows);
-    if refused != 0 {
-        return Answer { chip: p, refused };
+    if refused.none() {
+        let chip = data_at(p, at, byte, old, new, states, numbers, picture, rows);
+        return Answer { chip, refused };
     }
-    let chip = data_at(p, at, byte, old, new, states, numbers, picture, rows);
-    Answer { chip, refused: 0 }
+    Answer { chip: p, refused }
 }
 
 // The next byte of a read: what the controller drives, nothing when it drives nothing.
@@ -244,24 +246,24 @@ pub fn read_data(
     picture: &mut [u8],
     rows: &mut [u64],
 ) -> ReadAnswer
-    ensures { λ r. ⌜ Called (readCall at) (turnedBack false at) p (r .chip) (r .refused) old new states numbers picture rows ⌝ }
-    ensures { λ r. ⌜ Gives (readAnswer at) p (r .byte) old new states numbers picture rows ⌝ }
+    ensures { λ r. ⌜ Called (ask.reading at) p (r .chip) (r .refused) old new states numbers picture rows ⌝ }
+    ensures { λ r. ⌜ Answers (ask.reading at) p (ask.byte (r .byte)) old new states numbers picture rows ⌝ }
 {
     let refused = turned_back(p, at, false, old, new, states, numbers, picture, rows);
-    if refused != 0 {
+    if refused.none() {
+        let r = read_at(p, at, old, new, states, numbers, picture, rows);
+        let chip = r.chip;
+        let byte = r.byte;
         return ReadAnswer {
-            chip: p,
+            chip,
             refused,
-            byte: Read::Nothing,
+            byte,
         };
     }
-    let r = read_at(p, at, old, new, states, numbers, picture, rows);
-    let chip = r.chip;
-    let byte = r.byte;
     ReadAnswer {
-        chip,
-        refused: 0,
-        byte,
+        chip: p,
+        refused,
+        byte: Read::Nothing,
     }
 }
 
@@ -277,15 +279,14 @@ pub fn set_reset(
     picture: &mut [u8],
     rows: &mut [u64],
 ) -> Answer
-    ensures { λ r. ⌜ Called (resetCall at asserted) (turnedBack asserted at) p (r .chip) (r .refused)
-        old new states numbers picture rows ⌝ }
+    ensures { λ r. ⌜ Called (ask.reset at asserted) p (r .chip) (r .refused) old new states numbers picture rows ⌝ }
 {
     let refused = turned_back(p, at, asserted, old, new, states, numbers, picture, rows);
-    if refused != 0 {
-        return Answer { chip: p, refused };
+    if refused.none() {
+        let chip = reset_at(p, at, asserted, old, new, states, numbers, picture, rows);
+        return Answer { chip, refused };
     }
-    let chip = reset_at(p, at, asserted, old, new, states, numbers, picture, rows);
-    Answer { chip, refused: 0 }
+    Answer { chip: p, refused }
 }
 
 // Brings the chip to a time: an operation whose end has come ends, and a refresh publishes its
@@ -300,12 +301,12 @@ pub fn advance(
     picture: &mut [u8],
     rows: &mut [u64],
 ) -> Answer
-    ensures { λ r. ⌜ Called (advanceCall at) (turnedBack false at) p (r .chip) (r .refused) old new states numbers picture rows ⌝ }
+    ensures { λ r. ⌜ Called (ask.advance at) p (r .chip) (r .refused) old new states numbers picture rows ⌝ }
 {
     let refused = turned_back(p, at, false, old, new, states, numbers, picture, rows);
-    if refused != 0 {
-        return Answer { chip: p, refused };
+    if refused.none() {
+        let chip = arrive(p, at, old, new, states, numbers, picture);
+        return Answer { chip, refused };
     }
-    let chip = arrive(p, at, old, new, states, numbers, picture);
-    Answer { chip, refused: 0 }
+    Answer { chip: p, refused }
 }

@@ -1,15 +1,14 @@
 // Making a panel.
 ghost use mathlib.Core.Path.{_≡_};
-ghost use Rattle.uc8253.specs.Steps as steps;
 ghost use Rattle.controller.specs.TurnedBack as tests;
 ghost use Rattle.controller.specs.Calls as calls;
 ghost use Rattle.controller.specs.Lent.{before, Makes};
-ghost use Rattle.config.specs.Refusal as configs;
+ghost use Rattle.base.specs.RefusalNumbers.{refusalNumber};
 use crate::Answer;
+use base::Refusal;
 use config::Uc8253Config;
 use config::Uc8253Geometry;
 use config::Uc8253Timing;
-use config::Validity;
 use config::Variant;
 use controller::Current;
 use controller::Mode;
@@ -31,37 +30,26 @@ use registers::Area;
 use registers::Luts;
 use registers::Pair;
 use registers::Registers;
+use waveform::GROUPS;
 use waveform::Group;
+use waveform::LUTS;
 use waveform::Levels;
-use waveform::Table;
 use waveform::Waveform;
 
 fn no_waveform() -> Waveform
     ensures { λ r. ⌜ r ≡ calls.noWaveform ⌝ }
 {
-    let group = Group {
-        codes: [0; 4],
-        frames: [0; 4],
-        repeats: 0,
-    };
-    let groups = [group; 7];
-    let table = Table { groups };
-    let tables = [table; 5];
     let levels = Levels {
         vdh: 0,
         vdl: 0,
         vdhr: 0,
     };
-    Waveform {
-        tables,
-        levels,
-        frame_ns: 0,
-    }
+    Waveform::of([[Group::BLANK; GROUPS]; LUTS], levels, 0)
 }
 
 // Running, without supplies and without a command, the picture as the glass was.
-fn fresh(config: Uc8253Config, regs: Registers) -> Uc8253
-    ensures { λ r. ⌜ r ≡ steps.fresh config regs ⌝ }
+fn untouched(config: Uc8253Config, regs: Registers) -> Uc8253
+    ensures { λ r. ⌜ r ≡ calls.untouched config regs ⌝ }
 {
     let panel = config.panel;
     let mode = Mode {
@@ -107,7 +95,7 @@ fn fresh(config: Uc8253Config, regs: Registers) -> Uc8253
 }
 
 fn no_config() -> Uc8253Config
-    ensures { λ r. ⌜ r ≡ calls.zeros .config ⌝ }
+    ensures { λ r. ⌜ r ≡ calls.noConfig ⌝ }
 {
     let panel = Uc8253Geometry {
         sources: 0,
@@ -137,9 +125,8 @@ fn no_config() -> Uc8253Config
     }
 }
 
-// A record of zeros: what a refused making gives back.
-pub fn zeros() -> Uc8253
-    ensures { λ r. ⌜ r ≡ calls.zeros ⌝ }
+fn no_registers() -> Registers
+    ensures { λ r. ⌜ r ≡ calls.noRegisters ⌝ }
 {
     let resolution = Pair { h: 0, v: 0 };
     let start = Pair { h: 0, v: 0 };
@@ -149,7 +136,7 @@ pub fn zeros() -> Uc8253
         x1: 0,
         y1: 0,
     };
-    let regs = Registers {
+    Registers {
         psr: [0; 2],
         power: [0; 5],
         pll: 0,
@@ -158,20 +145,14 @@ pub fn zeros() -> Uc8253
         start,
         window,
         partial: false,
-    };
-    fresh(no_config(), regs)
+    }
 }
 
-fn number_of(v: Validity) -> u8
-    ensures { λ r. ⌜ r ≡ configs.number v ⌝ }
+// A record of zeros: what a refused making gives back.
+pub fn zeros() -> Uc8253
+    ensures { λ r. ⌜ r ≡ calls.zeros ⌝ }
 {
-    match v {
-        Validity::Valid => 0,
-        Validity::EmptyPanel => 1,
-        Validity::PanelTooLarge => 2,
-        Validity::FullSwing => 3,
-        Validity::FramePeriod => 4,
-    }
+    untouched(no_config(), no_registers())
 }
 
 // 1 to 4, then 5.
@@ -183,25 +164,25 @@ fn making_refused(
     numbers: &[u8],
     picture: &[u8],
     rows: &[u64],
-) -> u8
-    ensures { λ r. ⌜ r ≡ tests.makingRefused config (before old new states numbers picture rows) ⌝ }
+) -> Refusal
+    ensures { λ r. ⌜ refusalNumber r ≡ tests.makingRefused config (before old new states numbers picture rows) ⌝ }
 {
-    let no = number_of(config.validate());
-    if no != 0 {
-        return no;
+    let refused = config.validate();
+    if refused.none() {
+        if lengths_fit(
+            config,
+            old.len(),
+            new.len(),
+            states.len(),
+            numbers.len(),
+            picture.len(),
+            rows.len(),
+        ) {
+            return Refusal::Nothing;
+        }
+        return Refusal::BufferLength;
     }
-    if lengths_fit(
-        config,
-        old.len(),
-        new.len(),
-        states.len(),
-        numbers.len(),
-        picture.len(),
-        rows.len(),
-    ) {
-        return 0;
-    }
-    5
+    refused
 }
 
 // The chip at power-on under a configuration, with what it is lent; the zeros where it is refused.
@@ -217,19 +198,19 @@ pub fn power_on(
     ensures { λ r. ⌜ Makes (calls.made config) (tests.makingRefused config) (r .chip) (r .refused) old new states numbers picture rows ⌝ }
 {
     let refused = making_refused(config, old, new, states, numbers, picture, rows);
-    if refused != 0 {
-        let chip = zeros();
+    if refused.none() {
+        let optics = config.optics;
+        let gray = optics.initial_gray;
+        fill_bytes(old, 0);
+        fill_bytes(new, 0);
+        fill_states(states, level(gray, optics.full_swing));
+        fill_bytes(numbers, 0);
+        fill_bytes(picture, gray);
+        fill_words(rows);
+        let variant = config.variant;
+        let chip = untouched(config, Registers::reset(variant));
         return Answer { chip, refused };
     }
-    let optics = config.optics;
-    let gray = optics.initial_gray;
-    fill_bytes(old, 0);
-    fill_bytes(new, 0);
-    fill_states(states, level(gray, optics.full_swing));
-    fill_bytes(numbers, 0);
-    fill_bytes(picture, gray);
-    fill_words(rows);
-    let variant = config.variant;
-    let chip = fresh(config, Registers::reset(variant));
-    Answer { chip, refused: 0 }
+    let chip = zeros();
+    Answer { chip, refused }
 }

@@ -1,8 +1,16 @@
 // The questions, which change nothing, and the taking of the rows.
 ghost use mathlib.Core.Path.{_≡_};
+ghost use mathlib.Core.Bool.{true, false};
+ghost use Prim.Native.Nat.{ℕ};
+ghost use Rattle.base.specs.RefusalNumbers.{refusalNumber};
+ghost use Rattle.controller.specs.World.{Buffers, world};
+ghost use Rattle.controller.specs.Setters.{withOld, withNew, withPicture, withRows};
 ghost use Rattle.controller.specs.TurnedBack as tests;
 ghost use Rattle.controller.specs.Calls as calls;
-ghost use Rattle.controller.specs.Lent.{TurnsRows};
+ghost use Rattle.controller.specs.Ask.{did, refusedBy, answered};
+ghost use Rattle.controller.specs.Ask as ask;
+ghost use Rattle.controller.specs.Lent.{TurnsRows, Asked};
+use base::Refusal;
 use controller::Due;
 use controller::Uc8253;
 use controller::Work;
@@ -16,80 +24,80 @@ const ROWS: usize = 5_120;
 
 const PLANE: usize = 60_000;
 
-// The number of the refusal, 0 where the question was taken, and the answer.
+// What turned the question back, if anything did, and the answer.
 pub struct Busy {
-    pub refused: u8,
+    pub refused: Refusal,
     // `BUSY_N` is low.
     pub busy: bool,
 }
 
 pub struct Deadline {
-    pub refused: u8,
+    pub refused: Refusal,
     pub due: Due,
 }
 
 pub struct Bit {
-    pub refused: u8,
+    pub refused: Refusal,
     pub found: Found,
 }
 
 // The record after the rows are taken, and how many there were.
 pub struct Taken {
     pub chip: Uc8253,
-    pub refused: u8,
+    pub refused: Refusal,
     pub count: u16,
 }
 
 // 6, then 5 for what is lent.
-fn lent_refused(p: Uc8253, fits: bool) -> u8
-    ensures { λ r. ⌜ r ≡ tests.lentRefused p fits ⌝ }
+fn lent_refused(p: Uc8253, fits: bool) -> Refusal
+    ensures { λ r. ⌜ refusalNumber r ≡ tests.lentRefused p fits ⌝ }
 {
     if foreign(p) {
-        return 6;
+        return Refusal::ForeignRecord;
     }
     if fits {
-        return 0;
+        return Refusal::Nothing;
     }
-    5
+    Refusal::BufferLength
 }
 
 // The rows since the last taking, oldest first, are the first of the lent numbers, five a row.
 pub fn take_diagnostics(p: Uc8253, rows: &[u64]) -> Taken
-    ensures { λ r. ⌜ TurnsRows calls.takeCall p (r .chip) rows
-        × (r .refused ≡ calls.takingRefused p (now (rows .entry))) × (r .count ≡ calls.takenRows p (now (rows .entry))) ⌝ }
+    ensures { λ r. ⌜ TurnsRows (did ask.taking) p (r .chip) rows ⌝ }
+    ensures { λ r. ⌜ ((b : Buffers) → Asked ask.taking p (withRows (now (rows .entry)) b) (r .refused) (ask.count (r .count))) ⌝ }
 {
     let refused = lent_refused(p, rows.len() == ROWS);
-    if refused != 0 {
+    if refused.none() {
+        let log = p.log;
+        let mut q = p;
+        q.log = taken(log);
         return Taken {
-            chip: p,
+            chip: q,
             refused,
-            count: 0,
+            count: log.stored,
         };
     }
-    let log = p.log;
-    let mut q = p;
-    q.log = taken(log);
     Taken {
-        chip: q,
-        refused: 0,
-        count: log.stored,
+        chip: p,
+        refused,
+        count: 0,
     }
 }
 
 // Whether `BUSY_N` is low at a time: the chip works or `RST_N` is low.
 pub fn busy_pin(p: Uc8253, at: u64) -> Busy
-    ensures { λ r. ⌜ (r .refused ≡ calls.questionRefused p) × (r .busy ≡ calls.busyAnswer p at) ⌝ }
+    ensures { λ r. ⌜ ((b : Buffers) → Asked (ask.askBusy at) p b (r .refused) (ask.low (r .busy))) ⌝ }
 {
     if foreign(p) {
         return Busy {
-            refused: 6,
+            refused: Refusal::ForeignRecord,
             busy: false,
         };
     }
     let mode = p.mode;
     let operation = p.operation;
     Busy {
-        refused: 0,
+        refused: Refusal::Nothing,
         busy: busy_at(mode, operation, at),
     }
 }
@@ -110,38 +118,43 @@ fn due_of(work: Work, until: u64) -> Due
 
 // The next time that `BUSY_N` rises or a picture is published.
 pub fn next_deadline(p: Uc8253) -> Deadline
-    ensures { λ r. ⌜ (r .refused ≡ calls.questionRefused p) × (r .due ≡ calls.deadlineAnswer p) ⌝ }
+    ensures { λ r. ⌜ ((b : Buffers) → Asked ask.askDeadline p b (r .refused) (ask.due (r .due))) ⌝ }
 {
     if foreign(p) {
         return Deadline {
-            refused: 6,
+            refused: Refusal::ForeignRecord,
             due: Due::Never,
         };
     }
     let operation = p.operation;
     let work = operation.work;
     let due = due_of(work, operation.until);
-    Deadline { refused: 0, due }
+    Deadline {
+        refused: Refusal::Nothing,
+        due,
+    }
 }
 
-// A pixel of the lent plane, nothing past the RAM.
+// A pixel of the lent plane, the old one or the new, nothing past the RAM.
 pub fn ram_bit(p: Uc8253, plane: &[u8], x: u16, y: u16) -> Bit
-    ensures { λ r. ⌜ (r .refused ≡ calls.bitRefused p (now (plane .entry))) × (r .found ≡ calls.bitAnswer p (now (plane .entry)) x y) ⌝ }
+    ensures { λ r. ⌜ ((b : Buffers) → Asked (ask.askBit true x y) p (withOld (now (plane .entry)) b) (r .refused) (ask.bit (r .found))) ⌝ }
+    ensures { λ r. ⌜ ((b : Buffers) → Asked (ask.askBit false x y) p (withNew (now (plane .entry)) b) (r .refused) (ask.bit (r .found))) ⌝ }
 {
     let refused = lent_refused(p, plane.len() == PLANE);
-    if refused != 0 {
-        return Bit {
-            refused,
-            found: Found::Nothing,
-        };
+    if refused.none() {
+        let found = ram::ram_bit(plane, x, y);
+        return Bit { refused, found };
     }
-    let found = ram::ram_bit(plane, x, y);
-    Bit { refused: 0, found }
+    Bit {
+        refused,
+        found: Found::Nothing,
+    }
 }
 
 // The refusal of the question for a row.
-pub fn row_refused(p: Uc8253, picture: &[u8]) -> u8
-    ensures { λ r. ⌜ r ≡ calls.rowRefused p (now (picture .entry)) ⌝ }
+pub fn row_refused(p: Uc8253, picture: &[u8]) -> Refusal
+    ensures { λ r. ⌜ ((y : ℕ) (b : Buffers)
+        → refusalNumber r ≡ refusedBy (ask.askRow y) (world p (withPicture (now (picture .entry)) b))) ⌝ }
 {
     let pixels = p.config.panel.sources as usize * p.config.panel.gates as usize;
     lent_refused(p, picture.len() == pixels)
@@ -150,15 +163,16 @@ pub fn row_refused(p: Uc8253, picture: &[u8]) -> u8
 // A row of the picture: that part of what is lent; an empty part for a row past the last, or where
 // the question is refused.
 pub fn row(p: Uc8253, picture: &[u8], y: u16) -> &[u8]
-    ensures { λ r. ⌜ now r ≡ calls.rowAnswer p (now (picture .entry)) y ⌝ }
+    ensures { λ r. ⌜ ((b : Buffers) → ask.part (now r) ≡ answered (ask.askRow y) (world p (withPicture (now (picture .entry)) b))) ⌝ }
 {
-    if row_refused(p, picture) != 0 {
-        return &picture[0..0];
+    let refused = row_refused(p, picture);
+    if refused.none() {
+        if p.config.panel.gates <= y {
+            return &picture[0..0];
+        }
+        let width = p.config.panel.sources as usize;
+        let at = y as usize * width;
+        return &picture[at..at + width];
     }
-    if p.config.panel.gates <= y {
-        return &picture[0..0];
-    }
-    let width = p.config.panel.sources as usize;
-    let at = y as usize * width;
-    &picture[at..at + width]
+    &picture[0..0]
 }

@@ -9,7 +9,7 @@ ghost use lib.ListN.{take};
 ghost use lib.IntN.{ℤ};
 ghost use Rattle.waveform.specs.Frames.{framesOf};
 ghost use Rattle.pixels.specs.States.{most, everyState};
-ghost use Rattle.controller.specs.World.{withImage};
+ghost use Rattle.controller.specs.Setters.{withImage};
 ghost use Rattle.controller.specs.Refresh as rule;
 ghost use Rattle.controller.specs.Lent.{kept, Turns};
 use crate::telling::tell;

@@ -1,7 +1,8 @@
 // The small changes of the record that every call makes: a diagnostic, the command under way, an
 // operation begun or over.
 ghost use mathlib.Core.Path.{_≡_};
-ghost use Rattle.controller.specs.World.{withCurrent, withOperation, tell as tellOf, told as toldOf};
+ghost use Rattle.controller.specs.Setters.{withCurrent, withOperation};
+ghost use Rattle.controller.specs.Tell.{tell as tellOf, told as toldOf};
 ghost use Rattle.controller.specs.Arrives as arrives;
 ghost use Rattle.controller.specs.Lent.{TurnsRows};
 use base::saturating_add;

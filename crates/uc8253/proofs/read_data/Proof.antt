@@ -1,16 +1,22 @@
 -- `uc8253::read_data` meets its contract: turned back, or the read at its time.
-use mathlib.Core.Bool.{false}
-use Rattle.controller.specs.Reading.{reading}
-use Rattle.controller.specs.World.{World, world, buffers}
--- `uc8253::read_data` meets its contract: turned back, or the read at its time.
 use Rattle.uc8253.proofs.Called.{called-no, called-yes, read-no, read-yes, ready-arrive}
-use mathlib.Core.Path.{sym, _∙_}
+use Rattle.controller.specs.Reading.{reading}
+use borrow.Author.Tests.{eqb-true}
+use mathlib.Core.Bool.{false}
+use Rattle.base.proofs.RefusalWords.{told}
+use Rattle.controller.specs.World.{World, world, buffers}
 use borrow.Author.Needs.{needs}
 use Rattle.uc8253.proofs.read_data.Statement.{statement}
 use Rattle.uc8253.proofs.read_data.Tie as tie
 
 turned-back-requires : tie.Need-turned-back-requires
 turned-back-requires c κs = search needs
+
+none-requires : tie.Need-none-requires
+none-requires c κs = search needs
+
+read-at-requires : tie.Need-read-at-requires
+read-at-requires c κs = let g = c .before .before .before .before .before .before .before .before .before .before .before .before .before .before .before .before .before .before .before .before .args in let w : World = world (g .p) (buffers (g .old .now) (g .new .now) (g .states .now) (g .numbers .now) (g .picture .now) (g .rows .now)) in ready-arrive false (g .at) w (eqb-true _ 0 (told (c .before .before .before .before .before .before .before .none .ensures) (c .before .before .before .before .before .before .before .before .turned-back .ensures) (c .before .before .before .before .before .before .if1 .taken)))
 
 same-length : tie.Need-same-length
 same-length c = search needs
@@ -31,10 +37,7 @@ same-length-6 : tie.Need-same-length-6
 same-length-6 c = search needs
 
 returns : tie.Need-returns
-returns c = let g = c .before .before .before .before .before .before .before .before .before .before .before .before .before .args in let w : World = world (g .p) (buffers (g .old .now) (g .new .now) (g .states .now) (g .numbers .now) (g .picture .now) (g .rows .now)) in let e = c .before .turned-back .ensures in ((called-no false (g .at) w _ e reading (c .if1 .taken), e), read-no (g .at) w _ e (c .if1 .taken))
-
-read-at-requires : tie.Need-read-at-requires
-read-at-requires c κs = let g = c .before .before .before .before .before .before .before .before .before .before .before .before .before .before .before .before .before .before .before .args in let w : World = world (g .p) (buffers (g .old .now) (g .new .now) (g .states .now) (g .numbers .now) (g .picture .now) (g .rows .now)) in ready-arrive false (g .at) w (sym (c .before .before .before .before .before .before .before .turned-back .ensures) ∙ c .before .before .before .before .before .before .if1 .left)
+returns c = let g = c .before .before .before .before .before .before .before .before .before .before .before .before .before .before .before .before .before .before .before .before .before .before .before .before .before .before .before .before .before .args in let w : World = world (g .p) (buffers (g .old .now) (g .new .now) (g .states .now) (g .numbers .now) (g .picture .now) (g .rows .now)) in ((called-yes false (g .at) w reading _ (told (c .before .before .before .before .before .before .before .before .before .before .before .before .before .before .before .before .none .ensures) (c .before .before .before .before .before .before .before .before .before .before .before .before .before .before .before .before .before .turned-back .ensures) (c .before .before .before .before .before .before .before .before .before .before .before .before .before .before .before .if1 .taken)) (c .before .before .before .before .before .before .before .before .read-at .ensures .0), c .before .before .before .before .before .before .before .before .before .before .before .before .before .before .before .before .before .turned-back .ensures), read-yes (g .at) w _ (told (c .before .before .before .before .before .before .before .before .before .before .before .before .before .before .before .before .none .ensures) (c .before .before .before .before .before .before .before .before .before .before .before .before .before .before .before .before .before .turned-back .ensures) (c .before .before .before .before .before .before .before .before .before .before .before .before .before .before .before .if1 .taken)) (c .before .before .before .before .before .before .before .before .read-at .ensures .1))
 
 same-length-7 : tie.Need-same-length-7
 same-length-7 c = search needs
@@ -55,13 +58,15 @@ same-length-12 : tie.Need-same-length-12
 same-length-12 c = search needs
 
 returns-2 : tie.Need-returns-2
-returns-2 c = let g = c .before .before .before .before .before .before .before .before .before .before .before .before .before .before .before .before .before .before .before .before .before .before .before .before .before .before .before .before .args in let w : World = world (g .p) (buffers (g .old .now) (g .new .now) (g .states .now) (g .numbers .now) (g .picture .now) (g .rows .now)) in let e = c .before .before .before .before .before .before .before .before .before .before .before .before .before .before .before .before .turned-back .ensures in let z = c .before .before .before .before .before .before .before .before .before .before .before .before .before .before .before .if1 .left in ((called-yes false (g .at) w _ e reading _ z (c .before .before .before .before .before .before .before .before .read-at .ensures .0), sym z ∙ e), read-yes (g .at) w _ e _ z (c .before .before .before .before .before .before .before .before .read-at .ensures .1))
+returns-2 c = let g = c .before .before .before .before .before .before .before .before .before .before .before .before .before .before .args in let w : World = world (g .p) (buffers (g .old .now) (g .new .now) (g .states .now) (g .numbers .now) (g .picture .now) (g .rows .now)) in ((called-no false (g .at) w reading (told (c .before .none .ensures) (c .before .before .turned-back .ensures) (c .if1 .left)), c .before .before .turned-back .ensures), read-no (g .at) w (told (c .before .none .ensures) (c .before .before .turned-back .ensures) (c .if1 .left)))
 
 pub read-data-spec : {M : Type 1} → statement M
 read-data-spec =
     tie.close
     (tie.spec
     turned-back-requires
+    none-requires
+    read-at-requires
     same-length
     same-length-2
     same-length-3
@@ -69,7 +74,6 @@ read-data-spec =
     same-length-5
     same-length-6
     returns
-    read-at-requires
     same-length-7
     same-length-8
     same-length-9

@@ -1,6 +1,7 @@
 -- `uc8253::arriving::end` meets its contract, by what runs.
 use Rattle.controller.specs.declared.Work.the-variants as work
-use Rattle.controller.specs.World.{World, world, buffers, onChip, withOperation}
+use Rattle.controller.specs.World.{World, world, buffers, onChip}
+use Rattle.controller.specs.Setters.{withOperation}
 -- `uc8253::arriving::end` meets its contract, by what runs.
 use Rattle.uc8253.proofs.ByCase.{by-work, record-of}
 use Rattle.controller.specs.TurnedBack.{refreshRuns}

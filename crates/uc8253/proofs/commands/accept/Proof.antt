@@ -4,7 +4,8 @@ use Rattle.command.specs.declared.kinds.Kind.the-variants as kind
 use Rattle.command.specs.declared.kinds.Kind.{Kind}
 use Rattle.controller.specs.declared.Current.the-variants as current
 use Rattle.controller.specs.Command.{sortedBy, begun, executed}
-use Rattle.controller.specs.World.{World, world, buffers, withCurrent}
+use Rattle.controller.specs.World.{World, world, buffers}
+use Rattle.controller.specs.Setters.{withCurrent}
 use mathlib.Core.Path.{sym, ap, _∙_}
 use borrow.Author.Needs.{needs}
 use Rattle.uc8253.proofs.commands.accept.Statement.{statement}

@@ -3,7 +3,9 @@ use Rattle.uc8253.proofs.Changed.{then, in-case}
 use Rattle.controller.specs.declared.notes.Note.{Note}
 use Rattle.controller.specs.declared.Current.the-variants as current
 use Rattle.controller.specs.declared.Current.{Current}
-use Rattle.controller.specs.World.{world, withRows, withCurrent, told}
+use Rattle.controller.specs.World.{world}
+use Rattle.controller.specs.Setters.{withRows, withCurrent}
+use Rattle.controller.specs.Tell.{told}
 use mathlib.Core.Path.{ap, _∙_}
 use Rattle.controller.specs.Command.{closed, closedBy}
 use borrow.Author.Needs.{needs}

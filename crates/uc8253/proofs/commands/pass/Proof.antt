@@ -3,7 +3,8 @@ use Rattle.uc8253.proofs.Changed.{then, in-case}
 use Rattle.controller.specs.declared.notes.Note.{Note}
 use Rattle.controller.specs.declared.Current.the-variants as current
 use Rattle.controller.specs.Command.{passedBy, passed}
-use Rattle.controller.specs.World.{world, buffers, withCurrent}
+use Rattle.controller.specs.World.{world, buffers}
+use Rattle.controller.specs.Setters.{withCurrent}
 use mathlib.Core.Path.{sym, _∙_}
 use borrow.Author.Needs.{needs}
 use Rattle.uc8253.proofs.commands.pass.Statement.{statement}

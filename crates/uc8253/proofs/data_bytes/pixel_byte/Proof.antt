@@ -1,6 +1,7 @@
 -- `uc8253::data_bytes::pixel_byte` meets its contract, for either plane, by whether the cursor lies past the last row.
 use Rattle.uc8253.proofs.PixelByte.{left-area, moved, older, newer}
-use Rattle.controller.specs.World.{world, withRows, withOld, withNew}
+use Rattle.controller.specs.World.{world}
+use Rattle.controller.specs.Setters.{withRows, withOld, withNew}
 use Rattle.controller.specs.DataByte.{olderByte, newerByte}
 use borrow.Author.Tests.{lt-ltb, le-ltb}
 use Rattle.controller.proofs.Chain.{yes}

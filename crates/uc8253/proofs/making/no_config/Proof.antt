@@ -1,11 +1,11 @@
 -- `uc8253::making::no_config` meets its contract: both are zeros.
-use Rattle.controller.specs.Calls.{zeros}
+use Rattle.controller.specs.Calls.{noConfig}
 use mathlib.Core.Path.{refl}
 use Rattle.uc8253.proofs.making.no_config.Statement.{statement}
 use Rattle.uc8253.proofs.making.no_config.Tie as tie
 
 returns : tie.Need-returns
-unfolding zeros
+unfolding noConfig
 returns c = refl
 
 pub no-config-spec : {M : Type 1} → statement M

@@ -1,11 +1,11 @@
--- `uc8253::making::power_on` meets its contract: refused, or every buffer filled.
-use Rattle.uc8253.specs.Steps.{fresh}
-use Rattle.uc8253.proofs.FirstWorld.{at-level, made-first, made-none}
-use Rattle.uc8253.proofs.Refusals.{some}
-use mathlib.Core.Path.{ap, _∙_}
-use Rattle.controller.specs.World.{buffers}
-use native.Mathlib.Omega.{arith}
+-- `uc8253::making::power_on` meets its contract: every buffer filled, or refused.
 use lib.ListN.{length}
+use native.Mathlib.Omega.{arith}
+use Rattle.controller.specs.Calls.{untouched, firstChip}
+use Rattle.controller.specs.World.{buffers}
+use mathlib.Core.Path.{ap, _∙_}
+use Rattle.base.proofs.RefusalWords.{told}
+use Rattle.uc8253.proofs.FirstWorld.{at-level, made-first, made-none}
 use borrow.Author.Needs.{needs}
 use Rattle.uc8253.proofs.making.power_on.Statement.{statement}
 use Rattle.uc8253.proofs.making.power_on.Tie as tie
@@ -13,29 +13,8 @@ use Rattle.uc8253.proofs.making.power_on.Tie as tie
 making-refused-requires : tie.Need-making-refused-requires
 making-refused-requires c κs = search needs
 
-zeros-requires : tie.Need-zeros-requires
-zeros-requires c κs = search needs
-
-same-length : tie.Need-same-length
-same-length c = search needs
-
-same-length-2 : tie.Need-same-length-2
-same-length-2 c = search needs
-
-same-length-3 : tie.Need-same-length-3
-same-length-3 c = search needs
-
-same-length-4 : tie.Need-same-length-4
-same-length-4 c = search needs
-
-same-length-5 : tie.Need-same-length-5
-same-length-5 c = search needs
-
-same-length-6 : tie.Need-same-length-6
-same-length-6 c = search needs
-
-returns : tie.Need-returns
-returns c = (made-none (c .before .before .before .before .before .before .before .before .before .before .before .before .before .before .args .config) _ _ (some (c .before .before .making-refused .ensures) (c .before .if1 .taken)) (c .zeros .ensures), c .before .before .making-refused .ensures)
+none-requires : tie.Need-none-requires
+none-requires c κs = search needs
 
 fill-bytes-requires : tie.Need-fill-bytes-requires
 fill-bytes-requires c κs = search needs
@@ -61,20 +40,58 @@ fill-words-requires c κs = search needs
 reset-requires : tie.Need-reset-requires
 reset-requires c κs = search needs
 
-fresh-requires : tie.Need-fresh-requires
-fresh-requires c κs = search needs
+untouched-requires : tie.Need-untouched-requires
+untouched-requires c κs = search needs
+
+same-length : tie.Need-same-length
+same-length c = c .before .before .before .before .before .before .before .before .before .before .before .before .before .before .before .before .before .before .before .before .before .before .before .before .fill-bytes .kept .0
+
+same-length-2 : tie.Need-same-length-2
+same-length-2 c = c .before .before .before .before .before .before .before .before .before .before .before .before .before .before .before .before .before .before .before .before .fill-bytes2 .kept .0
+
+same-length-3 : tie.Need-same-length-3
+same-length-3 c = c .before .before .before .before .before .before .before .before .before .before .before .before .before .before .before .fill-states .kept .0
+
+same-length-4 : tie.Need-same-length-4
+same-length-4 c = c .before .before .before .before .before .before .before .before .before .before .before .before .fill-bytes3 .kept .0
+
+same-length-5 : tie.Need-same-length-5
+same-length-5 c = search needs
+
+same-length-6 : tie.Need-same-length-6
+same-length-6 c = search needs
+
+returns : tie.Need-returns
+unfolding firstChip
+returns c = let a = c .before .before .before .before .before .before .before .before .before .before .before .before .before .before .before .before .before .before .before .before .before .before .before .before .before .before .before .before .before .before .before .before .before .before .before .before .before .before .before .before .before .args in (
+  made-first (a .config) (buffers (a .old .now) (a .new .now) (a .states .now) (a .numbers .now) (a .picture .now) (a .rows .now)) (c .untouched .result) _
+      (omega (arith, c .before .before .before .before .before .before .before .before .before .before .before .before .before .before .before .before .before .before .before .before .before .before .before .before .before .before .before .before .before .before .before .before .before .before .before .before .before .before .before .before .before .good .0)) (told (c .before .before .before .before .before .before .before .before .before .before .before .before .before .before .before .before .before .before .before .before .before .before .before .before .before .before .before .before .none .ensures) (c .before .before .before .before .before .before .before .before .before .before .before .before .before .before .before .before .before .before .before .before .before .before .before .before .before .before .before .before .before .making-refused .ensures) (c .before .before .before .before .before .before .before .before .before .before .before .before .before .before .before .before .before .before .before .before .before .before .before .before .before .before .before .if1 .taken))
+      (record {
+        chip-is = c .untouched .ensures ∙ ap (untouched (a .config)) (c .before .reset .ensures);
+        old-is = c .before .before .before .before .before .before .before .before .before .before .before .before .before .before .before .before .before .before .before .before .before .before .before .before .fill-bytes .ensures;
+        new-is = c .before .before .before .before .before .before .before .before .before .before .before .before .before .before .before .before .before .before .before .before .fill-bytes2 .ensures;
+        states-is = at-level (length (a .states .now)) (c .before .before .before .before .before .before .before .before .before .before .before .before .before .before .before .fill-states .ensures) (c .before .before .before .before .before .before .before .before .before .before .before .before .before .before .before .before .level .ensures);
+        numbers-is = c .before .before .before .before .before .before .before .before .before .before .before .before .fill-bytes3 .ensures;
+        picture-is = c .before .before .before .before .before .before .before .before .fill-bytes4 .ensures;
+        rows-is = c .before .before .before .before .fill-words .ensures;
+      }),
+  c .before .before .before .before .before .before .before .before .before .before .before .before .before .before .before .before .before .before .before .before .before .before .before .before .before .before .before .before .before .making-refused .ensures,
+)
+
+zeros-requires : tie.Need-zeros-requires
+zeros-requires c κs = search needs
 
 same-length-7 : tie.Need-same-length-7
-same-length-7 c = c .before .before .before .before .before .before .before .before .before .before .before .before .before .before .before .before .before .before .before .before .before .before .before .before .fill-bytes .kept .0
+same-length-7 c = search needs
 
 same-length-8 : tie.Need-same-length-8
-same-length-8 c = c .before .before .before .before .before .before .before .before .before .before .before .before .before .before .before .before .before .before .before .before .fill-bytes2 .kept .0
+same-length-8 c = search needs
 
 same-length-9 : tie.Need-same-length-9
-same-length-9 c = c .before .before .before .before .before .before .before .before .before .before .before .before .before .before .before .fill-states .kept .0
+same-length-9 c = search needs
 
 same-length-10 : tie.Need-same-length-10
-same-length-10 c = c .before .before .before .before .before .before .before .before .before .before .before .before .fill-bytes3 .kept .0
+same-length-10 c = search needs
 
 same-length-11 : tie.Need-same-length-11
 same-length-11 c = search needs
@@ -83,41 +100,14 @@ same-length-12 : tie.Need-same-length-12
 same-length-12 c = search needs
 
 returns-2 : tie.Need-returns-2
-returns-2 c =
-    let words = c .before .before .before .before in
-    let picture = words .before .before .before .before in
-    let numbers = picture .before .before .before .before in
-    let states = numbers .before .before .before in
-    let new = states .before .before .before .before .before in
-    let old = new .before .before .before .before in
-    let asked = old .before .before .before .before in
-    let start = asked .before .before .before .before .before .before .before .before .before .before .before .before in
-    let a = start .args in
-    made-first (a .config) (buffers (a .old .now) (a .new .now) (a .states .now) (a .numbers .now) (a .picture .now) (a .rows .now)) (c .fresh .result) _
-    (omega (arith, start .good .0)) (asked .making-refused .ensures) (old .before .before .before .if1 .left)
-    (record {
-      chip-is = c .fresh .ensures ∙ ap (fresh (a .config)) (c .before .reset .ensures);
-      old-is = old .fill-bytes .ensures;
-      new-is = new .fill-bytes2 .ensures;
-      states-is = at-level (length (a .states .now)) (states .fill-states .ensures) (states .before .level .ensures);
-      numbers-is = numbers .fill-bytes3 .ensures;
-      picture-is = picture .fill-bytes4 .ensures;
-      rows-is = words .fill-words .ensures;
-    })
+returns-2 c = (made-none (c .before .before .before .before .before .before .before .before .before .before .before .before .before .before .before .args .config) _ _ (told (c .before .before .none .ensures) (c .before .before .before .making-refused .ensures) (c .before .if1 .left)) (c .zeros .ensures), c .before .before .before .making-refused .ensures)
 
 pub power-on-spec : {M : Type 1} → statement M
 power-on-spec =
     tie.close
     (tie.spec
     making-refused-requires
-    zeros-requires
-    same-length
-    same-length-2
-    same-length-3
-    same-length-4
-    same-length-5
-    same-length-6
-    returns
+    none-requires
     fill-bytes-requires
     fill-bytes-requires-2
     level-requires
@@ -126,7 +116,15 @@ power-on-spec =
     fill-bytes-requires-4
     fill-words-requires
     reset-requires
-    fresh-requires
+    untouched-requires
+    same-length
+    same-length-2
+    same-length-3
+    same-length-4
+    same-length-5
+    same-length-6
+    returns
+    zeros-requires
     same-length-7
     same-length-8
     same-length-9

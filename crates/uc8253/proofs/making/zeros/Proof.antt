@@ -1,5 +1,4 @@
--- `uc8253::making::zeros` meets its contract, part by part.
-use Rattle.uc8253.specs.Steps.{fresh}
+-- `uc8253::making::zeros` meets its contract: part by part.
 use Rattle.controller.specs.Calls.{zeros}
 use borrow.Author.Needs.{needs}
 use Rattle.uc8253.proofs.making.zeros.Statement.{statement}
@@ -8,12 +7,16 @@ use Rattle.uc8253.proofs.making.zeros.Tie as tie
 no-config-requires : tie.Need-no-config-requires
 no-config-requires c κs = search needs
 
-fresh-requires : tie.Need-fresh-requires
-fresh-requires c κs = search needs
+no-registers-requires : tie.Need-no-registers-requires
+no-registers-requires c κs = search needs
+
+untouched-requires : tie.Need-untouched-requires
+untouched-requires c κs = search needs
 
 returns : tie.Need-returns
-unfolding zeros fresh
-returns c = simp (c .fresh .ensures, c .before .no-config .ensures)
+unfolding zeros
+returns c = simp (c .untouched .ensures, c .before .before .no-config .ensures, c .before .no-registers .ensures)
 
 pub zeros-spec : {M : Type 1} → statement M
-zeros-spec = tie.close (tie.spec no-config-requires fresh-requires returns)
+zeros-spec =
+    tie.close (tie.spec no-config-requires no-registers-requires untouched-requires returns)

@@ -1,8 +1,9 @@
--- `uc8253::questions::busy_pin` meets its contract, by refusal 6.
-use Rattle.controller.proofs.Chain.{yes, no}
-use mathlib.Core.Path.{refl, sym, _∙_}
+-- `uc8253::questions::busy_pin` meets its contract: by refusal 6.
 use Rattle.controller.specs.Calls.{questionRefused, busyAnswer}
 use Rattle.controller.specs.TurnedBack.{lentRefused}
+use Rattle.controller.specs.Ask as ask
+use mathlib.Core.Path.{refl, sym, ap, _∙_}
+use Rattle.controller.proofs.Chain.{yes, no}
 use borrow.Author.Needs.{needs}
 use Rattle.uc8253.proofs.questions.busy_pin.Statement.{statement}
 use Rattle.uc8253.proofs.questions.busy_pin.Tie as tie
@@ -12,14 +13,14 @@ foreign-requires c κs = search needs
 
 returns : tie.Need-returns
 unfolding lentRefused questionRefused busyAnswer
-returns c = (yes _ (sym (c .before .foreign .ensures) ∙ c .if1 .taken) refl, yes _ (sym (c .before .foreign .ensures) ∙ c .if1 .taken) refl)
+returns c = λ b. (yes _ (sym (c .before .foreign .ensures) ∙ c .if1 .taken) refl, ap ask.low (yes _ (sym (c .before .foreign .ensures) ∙ c .if1 .taken) refl))
 
 busy-at-requires : tie.Need-busy-at-requires
 busy-at-requires c κs = search needs
 
 returns-2 : tie.Need-returns-2
 unfolding lentRefused questionRefused busyAnswer
-returns-2 c = (no _ (sym (c .before .before .before .before .foreign .ensures) ∙ c .before .before .before .if1 .left) refl, no _ (sym (c .before .before .before .before .foreign .ensures) ∙ c .before .before .before .if1 .left) (c .busy-at .ensures))
+returns-2 c = λ b. (no _ (sym (c .before .before .before .before .foreign .ensures) ∙ c .before .before .before .if1 .left) refl, ap ask.low (no _ (sym (c .before .before .before .before .foreign .ensures) ∙ c .before .before .before .if1 .left) (c .busy-at .ensures)))
 
 pub busy-pin-spec : {M : Type 1} → statement M
 busy-pin-spec = tie.close (tie.spec foreign-requires returns busy-at-requires returns-2)

@@ -1,8 +1,9 @@
--- `uc8253::questions::next_deadline` meets its contract, by refusal 6.
-use Rattle.controller.proofs.Chain.{yes, no}
-use mathlib.Core.Path.{refl, sym, _∙_}
+-- `uc8253::questions::next_deadline` meets its contract: by refusal 6.
 use Rattle.controller.specs.Calls.{questionRefused, deadlineAnswer}
 use Rattle.controller.specs.TurnedBack.{lentRefused}
+use Rattle.controller.specs.Ask as ask
+use mathlib.Core.Path.{refl, sym, ap, _∙_}
+use Rattle.controller.proofs.Chain.{yes, no}
 use borrow.Author.Needs.{needs}
 use Rattle.uc8253.proofs.questions.next_deadline.Statement.{statement}
 use Rattle.uc8253.proofs.questions.next_deadline.Tie as tie
@@ -12,14 +13,14 @@ foreign-requires c κs = search needs
 
 returns : tie.Need-returns
 unfolding lentRefused questionRefused deadlineAnswer
-returns c = (yes _ (sym (c .before .foreign .ensures) ∙ c .if1 .taken) refl, yes _ (sym (c .before .foreign .ensures) ∙ c .if1 .taken) refl)
+returns c = λ b. (yes _ (sym (c .before .foreign .ensures) ∙ c .if1 .taken) refl, ap ask.due (yes _ (sym (c .before .foreign .ensures) ∙ c .if1 .taken) refl))
 
 due-of-requires : tie.Need-due-of-requires
 due-of-requires c κs = search needs
 
 returns-2 : tie.Need-returns-2
 unfolding lentRefused questionRefused deadlineAnswer
-returns-2 c = (no _ (sym (c .before .before .before .foreign .ensures) ∙ c .before .before .if1 .left) refl, no _ (sym (c .before .before .before .foreign .ensures) ∙ c .before .before .if1 .left) (c .due-of .ensures))
+returns-2 c = λ b. (no _ (sym (c .before .before .before .foreign .ensures) ∙ c .before .before .if1 .left) refl, ap ask.due (no _ (sym (c .before .before .before .foreign .ensures) ∙ c .before .before .if1 .left) (c .due-of .ensures)))
 
 pub next-deadline-spec : {M : Type 1} → statement M
 next-deadline-spec = tie.close (tie.spec foreign-requires returns due-of-requires returns-2)

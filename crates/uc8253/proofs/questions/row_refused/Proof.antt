@@ -1,7 +1,7 @@
 -- `uc8253::questions::row_refused` meets its contract: the product of two 16-bit numbers fits.
-use Rattle.uc8253.proofs.Refusals.{small}
-use native.Mathlib.Omega.{arith}
 use Rattle.controller.specs.Calls.{rowRefused}
+use native.Mathlib.Omega.{arith}
+use Rattle.uc8253.proofs.Refusals.{small}
 use borrow.Author.Needs.{needs}
 use Rattle.uc8253.proofs.questions.row_refused.Statement.{statement}
 use Rattle.uc8253.proofs.questions.row_refused.Tie as tie
@@ -20,7 +20,7 @@ lent-refused-requires c κs = search needs
 
 returns : tie.Need-returns
 unfolding rowRefused
-returns c = c .lent-refused .ensures
+returns c = λ y b. c .lent-refused .ensures
 
 pub row-refused-spec : {M : Type 1} → statement M
 row-refused-spec =

@@ -2,7 +2,8 @@
 use Rattle.uc8253.proofs.Changed.{in-case}
 use Rattle.controller.specs.declared.Current.{Current}
 use Rattle.controller.specs.Reading.{reading, readingBy, readOf, readFrom}
-use Rattle.controller.specs.World.{world, withRows}
+use Rattle.controller.specs.World.{world}
+use Rattle.controller.specs.Setters.{withRows}
 use borrow.Author.Needs.{needs}
 use Rattle.uc8253.proofs.reading.read_byte.Statement.{statement}
 use Rattle.uc8253.proofs.reading.read_byte.Tie as tie

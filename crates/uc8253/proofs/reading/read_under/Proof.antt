@@ -4,7 +4,8 @@ use Rattle.controller.specs.declared.reads.Read.{Read}
 use Rattle.command.specs.declared.kinds.Kind.{Kind}
 use Rattle.controller.specs.Reading.{afterRead, readUnder, missedBy, drivenByte, readMore}
 use Rattle.controller.specs.DataByte.{under}
-use Rattle.controller.specs.World.{World, world, withRows}
+use Rattle.controller.specs.World.{World, world}
+use Rattle.controller.specs.Setters.{withRows}
 use mathlib.Core.Path.{ap, _∙_}
 use borrow.Author.Needs.{needs}
 use Rattle.uc8253.proofs.reading.read_under.Statement.{statement}

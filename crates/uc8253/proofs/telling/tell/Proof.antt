@@ -1,5 +1,5 @@
 -- `uc8253::telling::tell` meets its contract, callee by callee.
-use Rattle.controller.specs.World.{tell}
+use Rattle.controller.specs.Tell.{tell}
 use borrow.Author.Needs.{needs}
 use Rattle.uc8253.proofs.telling.tell.Statement.{statement}
 use Rattle.uc8253.proofs.telling.tell.Tie as tie

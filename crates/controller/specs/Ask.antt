@@ -1,0 +1,85 @@
+-- Demand 3's calls, made ones after the other once a panel is made: the kind and arguments of each, without record and buffers;
+-- what it does, the number by which it is turned back, and what it answers. The contract of each public call is an equation with these.
+use mathlib.Core.Bool.{Bool, true, false}
+use mathlib.Core.List.{List}
+use Prim.Native.Nat.{ℕ}
+use Rattle.base.specs.Pick.{pick}
+use Rattle.ram.specs.declared.Found.{Found}
+use Rattle.controller.specs.declared.Due.{Due}
+use Rattle.controller.specs.declared.reads.Read.{Read}
+use Rattle.controller.specs.World.{World}
+use Rattle.controller.specs.TurnedBack.{turnedBack}
+use Rattle.controller.specs.Calls as calls
+
+-- times, command and data bytes, the reset line (true: asserted), a plane (true: the old one), column and row
+pub data Ask : Type 0 where
+  command datum : ℕ → ℕ → Ask
+  reading advance : ℕ → Ask
+  reset : ℕ → Bool → Ask
+  taking : Ask
+  askBusy : ℕ → Ask
+  askDeadline : Ask
+  askBit : Bool → ℕ → ℕ → Ask
+  askRow : ℕ → Ask
+
+-- what each call makes of a record and what is lent; a question gives back no record, and the last one stands
+abbrev pub did : Ask → World → World
+did (command t c) w = calls.commandCall t c w
+did (datum t b) w = calls.dataCall t b w
+did (reading t) w = calls.readCall t w
+did (advance t) w = calls.advanceCall t w
+did (reset t asserted) w = calls.resetCall t asserted w
+did taking w = calls.takeCall w
+did (askBusy t) w = w
+did askDeadline w = w
+did (askBit older x y) w = w
+did (askRow y) w = w
+
+-- the number of its refusal, 0 if it is accepted
+abbrev pub refusedBy : Ask → World → ℕ
+refusedBy (command t c) w = turnedBack false t w
+refusedBy (datum t b) w = turnedBack false t w
+refusedBy (reading t) w = turnedBack false t w
+refusedBy (advance t) w = turnedBack false t w
+refusedBy (reset t asserted) w = turnedBack asserted t w
+refusedBy taking w = calls.takingRefused (w .chip) (w .lent .rows)
+refusedBy (askBusy t) w = calls.questionRefused (w .chip)
+refusedBy askDeadline w = calls.questionRefused (w .chip)
+refusedBy (askBit older x y) w = calls.bitRefused (w .chip) (pick older (w .lent .old) (w .lent .new))
+refusedBy (askRow y) w = calls.rowRefused (w .chip) (w .lent .picture)
+
+-- what a call hands back besides the record: the byte of a read, how many rows were taken, whether the busy pin is low, the deadline,
+-- a bit of the RAM, a part of the picture
+pub data Answer : Type 0 where
+  nothing : Answer
+  byte : Read → Answer
+  count : ℕ → Answer
+  low : Bool → Answer
+  due : Due → Answer
+  bit : Found → Answer
+  part : List ℕ → Answer
+
+abbrev pub answered : Ask → World → Answer
+answered (command t c) w = nothing
+answered (datum t b) w = nothing
+answered (reading t) w = byte (calls.readAnswer t w)
+answered (advance t) w = nothing
+answered (reset t asserted) w = nothing
+answered taking w = count (calls.takenRows (w .chip) (w .lent .rows))
+answered (askBusy t) w = low (calls.busyAnswer (w .chip) t)
+answered askDeadline w = due (calls.deadlineAnswer (w .chip))
+answered (askBit older x y) w = bit (calls.bitAnswer (w .chip) (pick older (w .lent .old) (w .lent .new)) x y)
+answered (askRow y) w = part (calls.rowAnswer (w .chip) (w .lent .picture) y)
+
+-- the calls that may change a lent entry; taking the rows and the questions change none
+abbrev pub writes : Ask → Bool
+writes (command t c) = true
+writes (datum t b) = true
+writes (reading t) = true
+writes (advance t) = true
+writes (reset t asserted) = true
+writes taking = false
+writes (askBusy t) = false
+writes askDeadline = false
+writes (askBit older x y) = false
+writes (askRow y) = false
