@@ -1,15 +1,13 @@
 -- The table of acceptance, proved: what computes is proved in its line, what takes more before it.
 use mathlib.Core.Path.{_≡_, refl, sym, ap, subst, _∙_}
-use mathlib.Core.Bool.{Bool, true, false}
+use mathlib.Core.Bool.{false}
 use mathlib.Core.List.{List, [], _∷_}
-use Prim.Native.Nat.{ℕ, zero, suc, _+_, _*_, _-_, _/_, _≤_, _<_, min, max}
+use Prim.Native.Nat.{ℕ, zero, suc, _+_, _*_, _-_, _≤_, _<_, min, max}
 use native.Mathlib.Nat.{div-lt-iff-lt-mul}
 use native.Mathlib.Omega.{arith}
 use lib.Dec.{lit<, lit≤, leb, eqb}
-use lib.IntN.{ℤ, pos}
-use lib.ListN.{length, take}
-use borrow.Author.Tests.{lt-leb}
-use Rattle.base.specs.Pick.{pick}
+use lib.IntN.{pos}
+use lib.ListN.{length}
 use Rattle.base.proofs.Cases.{both}
 use Rattle.config.specs.declared.Uc8253Config.{Uc8253Config}
 use Rattle.config.specs.declared.Variant.{Variant}
@@ -23,6 +21,7 @@ use Rattle.registers.specs.Written.{activeOf, writtenOf}
 use Rattle.registers.proofs.Examples.{last-column-only, columns-8-to-23, column-8-only}
 use Rattle.waveform.specs.Levels.{levelOfCode}
 use Rattle.waveform.specs.Tables.{ends}
+use Rattle.waveform.proofs.TableLaws.{longest-empty}
 use Rattle.command.specs.declared.kinds.Kind.the-variants as kind
 use Rattle.command.specs.Kinds.{kindOf}
 use Rattle.diagnostic.specs.declared.DiagnosticKind.{DiagnosticKind}
@@ -31,28 +30,26 @@ use Rattle.controller.specs.declared.Active.{Active}
 use Rattle.controller.specs.declared.Current.{Current}
 use Rattle.controller.specs.declared.Current.the-variants as current
 use Rattle.controller.specs.declared.Operation.{Operation}
-use Rattle.controller.specs.declared.Power.{Power}
 use Rattle.controller.specs.declared.Power.the-variants as power
-use Rattle.controller.specs.declared.Refresh.{Refresh}
 use Rattle.controller.specs.declared.Uc8253.{Uc8253}
-use Rattle.controller.specs.declared.Work.{Work}
-use Rattle.controller.specs.declared.Work.the-variants as work
-use Rattle.controller.specs.declared.notes.Note.{Note}
-use Rattle.controller.specs.declared.notes.Note.the-variants.{Quiet, Told}
 use Rattle.controller.specs.declared.reads.Read.{Read}
 use Rattle.controller.specs.declared.reads.Read.the-variants.{Byte, Nothing}
-use Rattle.controller.specs.World.{World, Buffers, world, onChip, withCurrent, tell, told}
+use Rattle.controller.specs.World.{World, Buffers, world, onChip}
+use Rattle.controller.specs.Setters.{withCurrent}
+use Rattle.controller.specs.Tell.{tell}
 use Rattle.controller.specs.Arrives.{timed, rest, endedBy, ended, arrived}
-use Rattle.controller.specs.Command.{closingNote, closedBy, closed, barredNote, begun, executed, passed, commandByte}
+use Rattle.controller.specs.Command.{closed, barredNote, begun, executed, passed, commandByte}
 use Rattle.controller.specs.Reading.{flagsOf, bytesOf, byteAt, drivenByte, readFrom, readOf, readMore, missedBy, readingBy, reading}
-use Rattle.controller.specs.Refresh.{waveformNow, walked, allFrames, finished, cutRefresh}
-use Rattle.controller.specs.Reset as rst
-use Rattle.controller.specs.Calls.{called, commandCall, readCall, readAnswer, resetCall, firstChip, firstBuffers, made}
+use Rattle.controller.specs.Refresh.{waveformNow}
+use Rattle.controller.specs.Calls.{called, commandCall, readCall, readAnswer, firstChip, firstBuffers, made}
 use Rattle.controller.specs.Sound.{Sound}
 use Rattle.controller.proofs.Sound.{sound-made, sound-arrived, sound-command, sound-reading, never-turned}
-use Rattle.walk.specs.Machine.{reset, Noted, Machine, cut, settled, lowered, stepped, framesAt}
-use Rattle.walk.specs.Table.{powerBytes, drivesOfSeven, Refreshes, Drives, AllEmpty, afterReads, answers, Made8279d, Table}
+use Rattle.walk.specs.Machine.{framesAt}
+use Rattle.walk.specs.OnePixel.{bench, slow}
+use Rattle.walk.specs.Table.{powerBytes, drivesOfSeven, AllEmpty, afterReads, answers, Made8279d, Table}
 use Rattle.walk.proofs.Demand.{made-is}
+use Rattle.walk.proofs.TwoDriven.{two-whole, states-two, cut-two, frames-two, state-two}
+use Rattle.walk.proofs.Inhabited.{refresh-met, drive-met, three-met, state-before, state-after, luts-met, made-met}
 
 -- ---- a register of five bytes
 abbrev kept : List ℕ → List ℕ
@@ -75,68 +72,6 @@ ends-at-7 x h =
     let b = step 14 a (pos 7) in
     omega (arith, step-up 14 x 7, step-up 14 a 7, step-down 14 b 6 (step-within 14 a (pos 7)))
 
--- ---- 2,999 of frames of 1,000
-two-whole : (now start period : ℕ) → period ≡ 1_000 → now ≡ start + 2_999 → (now - start) / period ≡ 2
-two-whole now start period p n = rw (p, n) (omega arith)
-
-first-two : (xs : List ℤ) → length xs ≡ 3 → length (take 2 xs) ≡ 2
-first-two [] e = absurd (omega arith)
-first-two (x ∷ []) e = absurd (omega arith)
-first-two (x ∷ y ∷ xs) e = refl
-
--- closing the command leaves the states
-told-states : (n : Note) (w : World) → told n w .lent .states ≡ w .lent .states
-unfolding tell
-told-states Quiet w = refl
-told-states (Told k) w = refl
-
-closed-by-states : (x : Current) (w : World) → closedBy x w .lent .states ≡ w .lent .states
-closed-by-states current.Idle w = refl
-closed-by-states current.Ignoring w = refl
-closed-by-states (current.Active a) w = told-states (closingNote a) w
-
-closed-states : (w : World) → closed w .lent .states ≡ w .lent .states
-unfolding closed
-closed-states w = closed-by-states (w .chip .stage .current) w
-
-module _ (w : World) (r : Refresh) (h : Refreshes w r) where
-  abbrev late : ℕ
-  late = w .chip .operation .started + 2_999
-
-  -- it does not end by itself
-  runs-on : arrived late w ≡ timed late w
-  unfolding arrived ended
-  runs-on =
-      let t : max (w .chip .now) late ≡ late = omega (arith, h .clock) in
-      let l : leb (w .chip .operation .until) (max (w .chip .now) late) ≡ false = rw t (lt-leb _ _ (h .later)) in
-      ap (λ (y : Bool). pick y (endedBy (w .chip .operation .work) (timed late w)) (timed late w)) l
-
-  cut-states : rst.cutBy (work.Refresh r) (timed late w) .lent .states
-      ≡ walked (w .chip .config .optics .«full_swing») (λ k. take 2 (allFrames (w .chip) k)) (w .lent .numbers) (w .lent .states)
-  unfolding cutRefresh finished tell
-  cut-states =
-      let t : max (w .chip .now) late ≡ late = omega (arith, h .clock) in
-      ap (λ (i : ℕ). walked (w .chip .config .optics .«full_swing») (λ k. take i (allFrames (w .chip) k)) (w .lent .numbers) (w .lent .states))
-      (two-whole (max (w .chip .now) late) (w .chip .operation .started) (w .chip .waveform .«frame_ns») (h .period) t)
-
-  states-two : resetCall late true w .lent .states
-      ≡ walked (w .chip .config .optics .«full_swing») (λ k. take 2 (allFrames (w .chip) k)) (w .lent .numbers) (w .lent .states)
-  unfolding called rst.resetEdge rst.cut
-  states-two =
-      rw (h .accepted)
-      (ap (λ (v : World). rst.edge true v .lent .states) runs-on
-      ∙ ap (λ (y : Power). rst.loweredBy y (timed late w) .lent .states) (h .awake)
-      ∙ closed-states (rst.cut (timed late w))
-      ∙ ap (λ (x : Work). rst.cutBy x (timed late w) .lent .states) (h .runs)
-      ∙ cut-states)
-
-cut-two : (g : Uc8253Config) (m : Machine) (r : Noted) (end : ℕ) → Drives m r end → stepped g m (reset (r .since + 2_999) true) .ended ≡ cut 2 r
-unfolding stepped settled lowered
-cut-two g m r end h =
-    let t : max (m .clock) (r .since + 2_999) ≡ r .since + 2_999 = omega (arith, h .clock) in
-    let l : leb end (r .since + 2_999) ≡ false = lt-leb _ _ (h .later) in
-    rw (h .runs, t, l, h .high) (ap (λ (i : ℕ). cut i r) (two-whole (r .since + 2_999) (r .since) (r .wave .«frame_ns») (h .period) refl))
-
 -- ---- the tables that a reset leaves
 empty-reset : (p : Uc8253) → p .luts ≡ resetLuts → AllEmpty (waveformNow p)
 unfolding waveformNow resetLuts ends
@@ -145,7 +80,7 @@ empty-reset p e (suc zero) = rw e
 empty-reset p e (suc (suc zero)) = rw e
 empty-reset p e (suc (suc (suc zero))) = rw e
 empty-reset p e (suc (suc (suc (suc zero)))) = rw e
-empty-reset p e (suc (suc (suc (suc (suc k))))) = refl
+empty-reset p e (suc (suc (suc (suc (suc k))))) = rw e
 
 -- ---- reads
 -- a UC8279d as making leaves it, all that a read looks at
@@ -170,7 +105,8 @@ bytes-71 p r = rw (r .rests, r .mode, r .whole)
 arrives : (t : ℕ) (w : World) → w .chip .operation ≡ rest → arrived t w ≡ timed t w
 unfolding arrived ended
 arrives t w e =
-    both (λ (v : World). v ≡ timed t w) (leb (w .chip .operation .until) (max (w .chip .now) t)) (ap (λ (o : Operation). endedBy (o .work) (timed t w)) e) refl
+    both (λ (v : World). v ≡ timed t w) (leb (w .chip .operation .until) (max (w .chip .now) t))
+    (ap (λ (o : Operation). endedBy (o .work) (timed t w)) e) refl
 
 -- a sound world takes every call
 takes : (t : ℕ) (f : World → World) (w : World) → Sound w → called false t f w ≡ f (arrived t w)
@@ -179,7 +115,15 @@ takes t f w s = rw (never-turned false t w s)
 
 -- the command c under way, of which n bytes were read
 abbrev order : ℕ → ℕ → Active
-order c n = record { command = c; kind = kind.Read; received = 0; read = n; cursor = record { x = 0; y = 0 }; «extra_reported» = false; «past_reported» = false }
+order c n = record {
+  command = c;
+  kind = kind.Read;
+  received = 0;
+  read = n;
+  cursor = record { x = 0; y = 0 };
+  «extra_reported» = false;
+  «past_reported» = false;
+}
 
 record Under (c n : ℕ) (w : World) : Type 0 where
   rested : Rested (w .chip)
@@ -205,7 +149,8 @@ unfolding reading
 reading-under c n w u =
     let r = u .rested in
     subst (λ (x : Current). Under c (min (n + 1) 65535) (readingBy x w)) (sym (u .current))
-    (missed-under c (min (n + 1) 65535) (drivenByte (w .chip .config .variant) (w .chip) c n) (order c n) (onChip (withCurrent (current.Active (readMore (order c n)))) w)
+    (missed-under c (min (n + 1) 65535) (drivenByte (w .chip .config .variant) (w .chip) c n) (order c n)
+    (onChip (withCurrent (current.Active (readMore (order c n)))) w)
     (record { rested = record { chip = r .chip; rests = r .rests; mode = r .mode; whole = r .whole }; current = refl }))
 
 -- reads of a command that gives these bytes
@@ -262,7 +207,9 @@ module _ (g : Uc8253Config) (b : Buffers) (h : Made8279d g b) (t : ℕ) where
   made-sound = sound-made g b (h .gray) (h .accepted)
 
   command-sound : (c : ℕ) → c < 256 → Sound (commandCall t c (made g b))
-  command-sound c l = subst (λ (v : World). Sound v) (sym (takes t (commandByte c) (made g b) made-sound)) (sound-command c (arrived t (made g b)) l (sound-arrived t (made g b) made-sound))
+  command-sound c l =
+      subst (λ (v : World). Sound v) (sym (takes t (commandByte c) (made g b) made-sound))
+      (sound-command c (arrived t (made g b)) l (sound-arrived t (made g b) made-sound))
 
   abbrev first : World
   first = timed t (world (firstChip g) (firstBuffers g))
@@ -308,14 +255,24 @@ acceptance = record {
   swing-15-from-0 = refl;
   swing-15-from-15 = refl;
   elapsed-2 = λ p f n. two-whole (p .now) (p .operation .started) (p .waveform .«frame_ns») f n;
-  first-2 = first-two;
   states-2 = states-two;
   walk-2 = cut-two;
   frames-2 = λ g m r end h p. rw (cut-two g m r end h);
-  empty-long = λ w e h. rw (e 0, e 1, e 2, e 3, e 4) (omega arith);
+  state-of-3 = state-two;
+  frames-of-3 = frames-two;
+  refresh-met = refresh-met;
+  drive-met = drive-met;
+  three-met = three-met;
+  state-before = state-before;
+  state-after = state-after;
+  empty-long = λ w e h. rw (longest-empty (w .tables) e) (omega arith);
   empty-driven = λ w e black k. rw (e k);
   empty-reset = empty-reset;
-  read-71 = λ c b h t t0 t1. answers-listed 0x71 (0x13 ∷ []) bytes-71 (t0 ∷ t1 ∷ []) 0 (commandCall t 0x71 (made c b)) (command-sound c b h t 0x71 (lit< tt)) (under-71 c b h t);
+  empty-met = λ v. empty-reset (made (slow v) bench .chip) (luts-met v);
+  made-met = made-met;
+  read-71 = λ c b h t t0 t1.
+      answers-listed 0x71 (0x13 ∷ []) bytes-71 (t0 ∷ t1 ∷ []) 0 (commandCall t 0x71 (made c b))
+      (command-sound c b h t 0x71 (lit< tt)) (under-71 c b h t);
   read-70 = λ c b h t t0 t1 t2 t3 t4 t5.
       answers-listed 0x70 identity bytes-70 (t0 ∷ t1 ∷ t2 ∷ t3 ∷ t4 ∷ t5 ∷ []) 0 (commandCall t 0x70 (made c b))
       (command-sound c b h t 0x70 (lit< tt)) (under-70 c b h t);

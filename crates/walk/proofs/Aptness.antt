@@ -29,7 +29,9 @@ use Rattle.controller.specs.declared.uses.Use.{Use}
 use Rattle.controller.specs.declared.uses.Use.the-variants as use-for
 use Rattle.controller.specs.declared.reads.Read.{Read}
 use Rattle.controller.specs.declared.reads.Read.the-variants.{Byte, Nothing}
-use Rattle.controller.specs.World.{World, onChip, withCurrent, tell}
+use Rattle.controller.specs.World.{World, onChip}
+use Rattle.controller.specs.Setters.{withCurrent}
+use Rattle.controller.specs.Tell.{tell}
 use Rattle.controller.specs.Arrives.{timed, endedBy, ended, arrived}
 use Rattle.controller.specs.Command as cmd
 use Rattle.controller.specs.DataByte as byte
@@ -46,7 +48,8 @@ Apt w = apt (w .chip .stage .current) ≡ true
 module _ (w : World) where
   stage-refresh : (r : Refresh) → drv.endedRefresh r w .chip .stage ≡ w .chip .stage
   unfolding drv.endedRefresh drv.copiedAfter drv.finished
-  stage-refresh r = both (λ (v : World). v .chip .stage ≡ w .chip .stage) (copiesNewToOld (w .chip .config .variant) (w .chip .regs)) refl refl
+  stage-refresh r =
+      both (λ (v : World). v .chip .stage ≡ w .chip .stage) (copiesNewToOld (w .chip .config .variant) (w .chip .regs)) refl refl
 
   stage-by : (x : Work) → endedBy x w .chip .stage ≡ w .chip .stage
   stage-by work.Nothing = refl
@@ -59,7 +62,9 @@ module _ (w : World) where
 
   stage-ended : ended w .chip .stage ≡ w .chip .stage
   unfolding ended
-  stage-ended = both (λ (v : World). v .chip .stage ≡ w .chip .stage) (leb (w .chip .operation .until) (w .chip .now)) (stage-by (w .chip .operation .work)) refl
+  stage-ended =
+      both (λ (v : World). v .chip .stage ≡ w .chip .stage) (leb (w .chip .operation .until) (w .chip .now))
+      (stage-by (w .chip .operation .work)) refl
 
 pub apt-arrived : (t : ℕ) (w : World) → Apt w → Apt (arrived t w)
 unfolding arrived
@@ -91,7 +96,8 @@ sorted-apt : (k : Kind) (c : ℕ) (w : World) → (eqb c 0 && single k) ≡ fals
 unfolding tell
 sorted-apt kind.Unknown c w e = refl
 sorted-apt (kind.Unsupported n) c w e = begun-apt c (kind.Unsupported n) (tell (UnsupportedCommand c) w) e
-sorted-apt (kind.Write n) c w e = ap (λ s. apt (s .current)) (executed-stage c (onChip (cmd.begun c (kind.Write n)) w)) ∙ begun-apt c (kind.Write n) w e
+sorted-apt (kind.Write n) c w e =
+    ap (λ s. apt (s .current)) (executed-stage c (onChip (cmd.begun c (kind.Write n)) w)) ∙ begun-apt c (kind.Write n) w e
 sorted-apt kind.Read c w e = ap (λ s. apt (s .current)) (executed-stage c (onChip (cmd.begun c kind.Read) w)) ∙ begun-apt c kind.Read w e
 
 passed-apt : (n : Note) (c : ℕ) (w : World) → Apt (cmd.passedBy n c w)
@@ -134,7 +140,8 @@ unfolding byte.dataByte
 apt-data b w q = given-apt (w .chip .stage .current) b w q
 
 -- ---- a read leaves command, kind and count
-missed-apt : (r : Read) (a : Active) (w : World) → apt (current.Active a) ≡ true → Apt (rd.missedBy r a (onChip (withCurrent (current.Active (rd.readMore a))) w))
+missed-apt : (r : Read) (a : Active) (w : World) → apt (current.Active a) ≡ true
+    → Apt (rd.missedBy r a (onChip (withCurrent (current.Active (rd.readMore a))) w))
 unfolding tell
 missed-apt (Byte n) a w q = q
 missed-apt Nothing a w q = both Apt (eqb (a .read) 0) q q

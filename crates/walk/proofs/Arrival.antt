@@ -20,7 +20,8 @@ use Rattle.walk.proofs.Seen.{machineOf, view, drivenBy, Calm}
 
 -- the end of the operation, by what it is
 module _ (w : World) (calm : Calm (machineOf w)) where
-  asleep-ends : (y : Power) → w .chip .operation .work ≡ work.DeepSleep → w .chip .mode .power ≡ y → leb (w .chip .operation .until) (w .chip .now) ≡ true
+  asleep-ends : (y : Power) → w .chip .operation .work ≡ work.DeepSleep → w .chip .mode .power ≡ y
+      → leb (w .chip .operation .until) (w .chip .now) ≡ true
       → view (ended w) ≡ drivenBy w (due (w .chip .config) (machineOf w .job) (machineOf w))
   unfolding ended
   asleep-ends power.Running e k l = rw (e, k, l)
@@ -35,12 +36,14 @@ module _ (w : World) (calm : Calm (machineOf w)) where
       (λ l. by-cases (copiesNewToOld (w .chip .config .variant) (w .chip .regs)) (λ k. rw (e, l, k)) (λ k. rw (e, l, k)))
       (λ l. rw (e, l))
 
-  view-ended : (x : Work) → w .chip .operation .work ≡ x → view (ended w) ≡ drivenBy w (due (w .chip .config) (machineOf w .job) (machineOf w))
+  view-ended : (x : Work) → w .chip .operation .work ≡ x
+      → view (ended w) ≡ drivenBy w (due (w .chip .config) (machineOf w .job) (machineOf w))
   unfolding ended
   view-ended work.Nothing e = by-cases (leb (w .chip .operation .until) (w .chip .now)) (λ l. rw (e, l)) (λ l. rw (e, l))
   view-ended work.PowerOn e = by-cases (leb (w .chip .operation .until) (w .chip .now)) (λ l. rw (e, l)) (λ l. rw (e, l))
   view-ended work.PowerOff e = by-cases (leb (w .chip .operation .until) (w .chip .now)) (λ l. rw (e, l)) (λ l. rw (e, l))
-  view-ended work.DeepSleep e = by-cases (leb (w .chip .operation .until) (w .chip .now)) (λ l. asleep-ends (w .chip .mode .power) e refl l) (λ l. rw (e, l))
+  view-ended work.DeepSleep e =
+      by-cases (leb (w .chip .operation .until) (w .chip .now)) (λ l. asleep-ends (w .chip .mode .power) e refl l) (λ l. rw (e, l))
   view-ended work.SoftReset e = by-cases (leb (w .chip .operation .until) (w .chip .now)) (λ l. rw (e, l)) (λ l. rw (e, l))
   view-ended work.HardwareReset e = by-cases (leb (w .chip .operation .until) (w .chip .now)) (λ l. rw (e, l)) (λ l. rw (e, l))
   view-ended (work.Refresh r) e = refresh-ends r e

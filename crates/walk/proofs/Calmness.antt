@@ -3,7 +3,7 @@ use mathlib.Core.Path.{_≡_, refl, sym, subst, _∙_}
 use mathlib.Core.Bool.{Bool, true, false, not, _&&_, _||_, true≢false}
 use mathlib.Core.List.{[], _∷_}
 use Prim.Native.Nat.{ℕ, max}
-use lib.Dec.{eqb, ltb, leb}
+use lib.Dec.{eqb, ltb}
 use Rattle.base.specs.Pick.{pick, oneOf}
 use Rattle.base.proofs.Cases.{by-cases, both}
 use Rattle.config.specs.declared.Uc8253Config.{Uc8253Config}
@@ -12,7 +12,12 @@ use Rattle.command.specs.declared.kinds.Kind.the-variants as kind
 use Rattle.command.specs.Kinds.{kindOf, takesByte}
 use Rattle.registers.specs.Flags.{bitSet, copiesNewToOld}
 use Rattle.registers.specs.Written.{writtenOf}
-use Rattle.walk.specs.Machine.{Ask, command, datum, reading, advance, reset, taking, askBusy, askDeadline, askBit, askRow, Order, Hearing, none, ignored, under, Task, powersUp, powersDown, fallsAsleep, resetsSoftly, resetsHardly, drives, Job, idle, until, Machine, withClock, withHears, withJob, busy, restarts, Out, done, due, settled, dropped, able, refresh, acted, ordered, commanded, softened, streamed, stored, took, tookBy, heard, given, cleared, lowered, raised, stepped, fresh}
+use Rattle.controller.specs.Ask.{Ask, command, datum, reading, advance, reset, taking, askBusy, askDeadline, askBit, askRow}
+use Rattle.walk.specs.Machine.{busy, restarts, Out, done, reached, due, settled, dropped, able, refresh, acted, ordered, commanded}
+use Rattle.walk.specs.Machine.{softened, streamed, stored, took, tookBy, heard, given, cleared, lowered, raised, stepped, fresh}
+use Rattle.walk.specs.Kept.{Order, Hearing, none, ignored, under, Task, powersUp, powersDown}
+use Rattle.walk.specs.Kept.{fallsAsleep, resetsSoftly, resetsHardly, drives, Job, idle, until, Machine}
+use Rattle.walk.specs.Parts.{withClock, withHears, withJob}
 use Rattle.walk.proofs.Seen.{live, works, Calm}
 
 -- a command and a data byte leave the line as it is
@@ -81,7 +86,8 @@ calm-done g (drives r) m e c = both Calm (copiesNewToOld (g .variant) (m .regs))
 calm-due : (g : Uc8253Config) (j : Job) (m : Machine) → Calm m → Calm (due g j m .machine)
 calm-due g idle m c = c
 calm-due g (until e k) m c =
-    both (λ (o : Out). Calm (o .machine)) (leb e (m .clock)) (calm-done g k (withJob idle m) refl (record { still = λ l. refl; deaf = c .deaf })) c
+    both (λ (o : Out). Calm (o .machine)) (reached e m)
+    (calm-done g k (withJob idle m) refl (record { still = λ l. refl; deaf = c .deaf })) c
 
 calm-settled : (g : Uc8253Config) (t : ℕ) (m : Machine) → Calm m → Calm (settled g t m .machine)
 unfolding settled
@@ -90,7 +96,10 @@ calm-settled g t m c = calm-due g (m .job) (withClock (max (m .clock) t) m) (rec
 -- a command byte: in reset it is dropped
 calm-in-reset : (g : Uc8253Config) (b : ℕ) (m : Machine) → Calm m → m .low ≡ true → Calm (commanded g b m)
 unfolding commanded dropped
-calm-in-reset g b m c l = subst (λ (t : Bool). Calm (pick ((t || restarts (m .job)) || (m .sleep || (busy (m .job) (m .clock) && not (oneOf (0x70 ∷ 0x71 ∷ 0x81 ∷ []) b)))) (withHears ignored m) (ordered (kindOf b (g .variant)) g b m)))
+calm-in-reset g b m c l =
+    subst (λ (t : Bool). Calm
+    (pick ((t || restarts (m .job)) || (m .sleep || (busy (m .job) (m .clock) && not (oneOf (0x70 ∷ 0x71 ∷ 0x81 ∷ []) b))))
+    (withHears ignored m) (ordered (kindOf b (g .variant)) g b m)))
     (sym l) (record { still = c .still; deaf = λ q. refl })
 
 calm-commanded : (g : Uc8253Config) (b : ℕ) (m : Machine) → Calm m → Calm (commanded g b m)
@@ -105,7 +114,8 @@ calm-heard (under o) g b m e q c = absurd (true≢false q)
 calm-given : (g : Uc8253Config) (b : ℕ) (m : Machine) → Calm m → Calm (given g b m)
 unfolding given
 calm-given g b m c =
-    by-cases (m .low) (λ l. calm-heard (m .hears) g b m refl (c .deaf l) c) (λ l. calm-high (heard (m .hears) g b m) (low-heard (m .hears) g b m ∙ l))
+    by-cases (m .low) (λ l. calm-heard (m .hears) g b m refl (c .deaf l) c)
+    (λ l. calm-high (heard (m .hears) g b m) (low-heard (m .hears) g b m ∙ l))
 
 -- the edges
 calm-lowered : (g : Uc8253Config) (o : Out) → Calm (o .machine) → Calm (lowered g o .machine)

@@ -24,10 +24,13 @@ use Rattle.controller.specs.declared.Work.{Work}
 use Rattle.controller.specs.declared.Work.the-variants as work
 use Rattle.controller.specs.declared.notes.Note.{Note}
 use Rattle.controller.specs.declared.notes.Note.the-variants.{Quiet, Told}
-use Rattle.controller.specs.World.{World, onChip, tell, told}
+use Rattle.controller.specs.World.{World, onChip}
+use Rattle.controller.specs.Tell.{tell, told}
 use Rattle.controller.specs.Command as cmd
 use Rattle.controller.specs.Refresh as drv
-use Rattle.walk.specs.Machine.{Machine, Hearing, ignored, withHears, busy, restarts, dropped, noted, able, refresh, begin, drives, waveNow, acted, ordered, commanded, begun}
+use Rattle.walk.specs.Machine.{busy, restarts, dropped, noted, able, refresh, begin, waveNow, acted, ordered, commanded, begun}
+use Rattle.walk.specs.Kept.{Machine, Hearing, ignored, drives}
+use Rattle.walk.specs.Parts.{withHears}
 use Rattle.walk.proofs.Arrival.{Waits}
 use Rattle.walk.proofs.Numbers.{rows-tabulated}
 use Rattle.walk.proofs.Seen.{single, jobOf, machineOf, view, looks, Panelled}
@@ -35,10 +38,12 @@ use Rattle.walk.proofs.Seen.{single, jobOf, machineOf, view, looks, Pan
 -- ---- a refresh
 -- its start: what it notes
 view-started : (w : World) → Panelled w
-    → view (drv.refreshStarted w) ≡ looks w (begin (drives (noted (w .chip .config) (machineOf w))) (durationOf (waveNow (w .chip .config) (machineOf w))) (machineOf w))
+    → view (drv.refreshStarted w)
+    ≡ looks w (begin (drives (noted (w .chip .config) (machineOf w))) (durationOf (waveNow (w .chip .config) (machineOf w))) (machineOf w))
 unfolding drv.refreshStarted drv.refreshing drv.waveformNow drv.numbersNow noted
 view-started w p =
-    rw (rows-tabulated (numberOf (pixelsOf (w .chip .config .panel) (w .chip .regs) (w .chip .config .variant)) (w .lent .old) (w .lent .new))
+    rw (rows-tabulated
+    (numberOf (pixelsOf (w .chip .config .panel) (w .chip .regs) (w .chip .config .variant)) (w .lent .old) (w .lent .new))
     (w .chip .config .panel .sources) (w .chip .config .panel .gates) (w .lent .numbers) (p .wide) (p .long))
 
 view-told : (k : DiagnosticKind) (w : World) → view (tell k w) ≡ view w
@@ -49,7 +54,9 @@ view-told k w = refl
 module _ (k1 k2 k3 k4 : DiagnosticKind) (w : World) (p : Panelled w) where
   view-able : (e5 e4 e1 e : Bool)
       → view (drv.refreshedBy (pick e5 (pick e4 (pick e1 (pick e Quiet (Told k4)) (Told k3)) (Told k2)) (Told k1)) w)
-      ≡ looks w (pick (e5 && (e4 && (e1 && e))) (begin (drives (noted (w .chip .config) (machineOf w))) (durationOf (waveNow (w .chip .config) (machineOf w))) (machineOf w)) (machineOf w))
+      ≡ looks w (pick (e5 && (e4 && (e1 && e)))
+      (begin (drives (noted (w .chip .config) (machineOf w))) (durationOf (waveNow (w .chip .config) (machineOf w))) (machineOf w))
+      (machineOf w))
   view-able true true true true = view-started w p
   view-able true true true false = view-told k4 w
   view-able true true false e = view-told k3 w
@@ -59,7 +66,8 @@ module _ (k1 k2 k3 k4 : DiagnosticKind) (w : World) (p : Panelled w) where
 view-refreshed : (w : World) → Panelled w → view (drv.refreshed w) ≡ looks w (refresh (w .chip .config) (machineOf w))
 unfolding drv.refreshed drv.refreshNote able refresh
 view-refreshed w p =
-    view-able _ _ _ _ w p (bitSet (getD (w .chip .regs .psr) 0 0) 5) (bitSet (getD (w .chip .regs .psr) 0 0) 4) (bitSet (getD (w .chip .regs .psr) 0 0) 1) (w .chip .mode .powered)
+    view-able _ _ _ _ w p (bitSet (getD (w .chip .regs .psr) 0 0) 5) (bitSet (getD (w .chip .regs .psr) 0 0) 4)
+    (bitSet (getD (w .chip .regs .psr) 0 0) 1) (w .chip .mode .powered)
 
 -- ---- what a command does at once
 view-executed : (c : ℕ) (w : World) → Panelled w → view (cmd.executed c w) ≡ looks w (acted (w .chip .config) c (machineOf w))
@@ -89,7 +97,8 @@ begun-acts c k w p e =
     view-executed c (onChip (cmd.begun c k) w) (record { wide = p .wide; long = p .long })
     ∙ ap (λ (m : Machine). looks w (acted (w .chip .config) c m)) (begun-seen c k w e)
 
-view-sorted : (k : Kind) (c : ℕ) (w : World) → Panelled w → (eqb c 0 && single k) ≡ false → view (cmd.sortedBy k c w) ≡ looks w (ordered k (w .chip .config) c (machineOf w))
+view-sorted : (k : Kind) (c : ℕ) (w : World) → Panelled w → (eqb c 0 && single k) ≡ false
+    → view (cmd.sortedBy k c w) ≡ looks w (ordered k (w .chip .config) c (machineOf w))
 unfolding tell cmd.begun
 view-sorted kind.Unknown c w p e = refl
 view-sorted (kind.Unsupported n) c w p e = ap (looks w) (begun-seen c (kind.Unsupported n) w e)
@@ -117,7 +126,8 @@ restarts-as (work.Refresh r) s e v ns = refl
 above : (e t : ℕ) → leb e t ≡ false → ltb t e ≡ true
 above e t q = lt-ltb t e (leb-false e t q)
 
-busy-as : (x : Work) (s e : ℕ) (v : Waveform) (ns : List ℕ) (t : ℕ) → (cmd.busy x && leb e t) ≡ false → busy (jobOf x s e v ns) t ≡ cmd.busy x
+busy-as : (x : Work) (s e : ℕ) (v : Waveform) (ns : List ℕ) (t : ℕ) → (cmd.busy x && leb e t) ≡ false
+    → busy (jobOf x s e v ns) t ≡ cmd.busy x
 busy-as work.Nothing s e v ns t q = refl
 busy-as work.PowerOn s e v ns t q = above e t q
 busy-as work.PowerOff s e v ns t q = above e t q
@@ -129,7 +139,8 @@ busy-as (work.Refresh r) s e v ns t q = above e t q
 module _ (k8 k7 k6 : DiagnosticKind) (c : ℕ) (w : World) (p : Panelled w) where
   view-noted : (a b d e : Bool)
       → view (cmd.passedBy (pick a (Told k8) (pick b (Told k7) (pick d (pick e Quiet (Told k6)) Quiet))) c w)
-      ≡ looks w (pick (a || (b || (d && not e))) (withHears ignored (machineOf w)) (ordered (kindOf c (w .chip .config .variant)) (w .chip .config) c (machineOf w)))
+      ≡ looks w (pick (a || (b || (d && not e))) (withHears ignored (machineOf w))
+      (ordered (kindOf c (w .chip .config .variant)) (w .chip .config) c (machineOf w)))
   view-noted true b d e = view-ignoring k8 w
   view-noted false true d e = view-ignoring k7 w
   view-noted false false true true = view-sorted (kindOf c (w .chip .config .variant)) c w p (not-single c (w .chip .config .variant))
@@ -139,9 +150,14 @@ module _ (k8 k7 k6 : DiagnosticKind) (c : ℕ) (w : World) (p : Panelled w) wher
 view-passed : (c : ℕ) (w : World) → Panelled w → Waits w → view (cmd.passed c w) ≡ looks w (commanded (w .chip .config) c (machineOf w))
 unfolding cmd.passed cmd.barredNote commanded dropped
 view-passed c w p q =
-    view-noted _ _ _ c w p (cmd.inReset (w .chip .mode .power) || cmd.initialises (w .chip .operation .work)) (cmd.asleep (w .chip .mode .power))
+    view-noted _ _ _ c w p (cmd.inReset (w .chip .mode .power) || cmd.initialises (w .chip .operation .work))
+    (cmd.asleep (w .chip .mode .power))
     (cmd.busy (w .chip .operation .work)) (oneOf (0x70 ∷ 0x71 ∷ 0x81 ∷ []) c)
-    ∙ rw (restarts-as, busy-as (w .chip .operation .work) (w .chip .operation .started) (w .chip .operation .until) (w .chip .waveform) (w .lent .numbers) (w .chip .now) q)
+    ∙ rw (
+      restarts-as,
+      busy-as (w .chip .operation .work) (w .chip .operation .started) (w .chip .operation .until)
+          (w .chip .waveform) (w .lent .numbers) (w .chip .now) q,
+    )
 
 -- ---- the command before it closes, which the next one does not look at
 ordered-deaf : (k : Kind) (g : Uc8253Config) (c : ℕ) (h : Hearing) (m : Machine) → ordered k g c (withHears h m) ≡ ordered k g c m
@@ -169,6 +185,7 @@ module _ (c : ℕ) (w : World) (p : Panelled w) (q : Waits w) where
   view-closed current.Ignoring = view-passed c w p q
   view-closed (current.Active a) = view-noticed (cmd.closingNote a)
 
-pub view-command : (c : ℕ) (w : World) → Panelled w → Waits w → view (cmd.commandByte c w) ≡ looks w (commanded (w .chip .config) c (machineOf w))
+pub view-command : (c : ℕ) (w : World) → Panelled w → Waits w
+    → view (cmd.commandByte c w) ≡ looks w (commanded (w .chip .config) c (machineOf w))
 unfolding cmd.commandByte cmd.closed
 view-command c w p q = view-closed c w p q (w .chip .stage .current)

@@ -19,10 +19,14 @@ use Rattle.controller.specs.declared.Current.the-variants as current
 use Rattle.controller.specs.declared.uses.Use.the-variants as use-for
 use Rattle.controller.specs.declared.reads.Read.{Read}
 use Rattle.controller.specs.declared.reads.Read.the-variants.{Byte, Nothing}
-use Rattle.controller.specs.World.{World, onChip, withCurrent, tell}
+use Rattle.controller.specs.World.{World, onChip}
+use Rattle.controller.specs.Setters.{withCurrent}
+use Rattle.controller.specs.Tell.{tell}
 use Rattle.controller.specs.DataByte as byte
 use Rattle.controller.specs.Reading as rd
-use Rattle.walk.specs.Machine.{Hearing, ignored, under, withHears, counted, softened, streamed, stored, took, tookBy, heard, given}
+use Rattle.walk.specs.Machine.{counted, softened, streamed, stored, took, tookBy, heard, given}
+use Rattle.walk.specs.Kept.{Hearing, ignored, under}
+use Rattle.walk.specs.Parts.{withHears}
 use Rattle.walk.proofs.Seen.{orderOf, single, over, hearingOf, apt, machineOf, view, looks}
 
 over-more : (a b : Bool) → a ≡ true → (a && b) ≡ false → b ≡ false
@@ -46,12 +50,14 @@ module _ (a : Active) (b : ℕ) (w : World) (o : over a ≡ false) where
       (λ l. rw (l, e, o))
 
   -- a byte that the command takes
-  view-doing : view (byte.usedBy (byte.doing (a .command) (a .received) b) a b w) ≡ looks w (took (w .chip .config) b (orderOf a) (machineOf w))
+  view-doing : view (byte.usedBy (byte.doing (a .command) (a .received) b) a b w)
+      ≡ looks w (took (w .chip .config) b (orderOf a) (machineOf w))
   unfolding byte.doing tell took softened stored
   view-doing =
       by-cases (eqb (a .command) 0x00)
       (λ z. by-cases (eqb (a .received) 0)
-      (λ f. by-cases (bitSet b 0) (λ s. rw (eqb-true (a .command) 0 z, f, s, over-more (eqb (a .command) 0) (single (a .kind)) z o)) (λ s. rw (z, f, s, z)))
+      (λ f. by-cases (bitSet b 0) (λ s. rw (eqb-true (a .command) 0 z, f, s, over-more (eqb (a .command) 0) (single (a .kind)) z o))
+      (λ s. rw (z, f, s, z)))
       (λ f. rw (eqb-true (a .command) 0 z, f, over-more (eqb (a .command) 0) (single (a .kind)) z o)))
       (λ z. by-cases (eqb (a .command) 0x07)
       (λ v. by-cases (eqb b 0xA5) (λ h. rw (z, v, h, o)) (λ h. rw (z, v, h, o)))
@@ -61,7 +67,9 @@ module _ (a : Active) (b : ℕ) (w : World) (o : over a ≡ false) where
       (λ n. rw (z, v, t, n) (view-newer t))
       (λ n. rw (z, v, t, n, o)))))
 
-  view-kind : (k : Kind) → view (byte.usedBy (byte.doneBy k (a .command) (a .received) b) a b w) ≡ looks w (tookBy k (w .chip .config) b (orderOf a) (machineOf w))
+  view-kind : (k : Kind)
+      → view (byte.usedBy (byte.doneBy k (a .command) (a .received) b) a b w)
+      ≡ looks w (tookBy k (w .chip .config) b (orderOf a) (machineOf w))
   view-kind (kind.Write n) = view-doing
   view-kind kind.Read = rw o
   view-kind (kind.Unsupported n) = rw o
@@ -70,7 +78,8 @@ module _ (a : Active) (b : ℕ) (w : World) (o : over a ≡ false) where
   -- beyond the largest count
   view-purpose : (t x : Bool)
       → view (byte.usedBy (pick t (byte.doneBy (a .kind) (a .command) (a .received) b) (pick x use-for.Quiet use-for.Extra)) a b w)
-      ≡ looks w (pick t (tookBy (a .kind) (w .chip .config) b (orderOf a) (machineOf w)) (withHears (under (counted (orderOf a))) (machineOf w)))
+      ≡ looks w (pick t (tookBy (a .kind) (w .chip .config) b (orderOf a) (machineOf w))
+      (withHears (under (counted (orderOf a))) (machineOf w)))
   unfolding tell
   view-purpose true x = view-kind (a .kind)
   view-purpose false true = rw o
@@ -110,10 +119,13 @@ module _ (a : Active) (b : ℕ) (w : World) (e : w .chip .stage .current ≡ cur
       silent : hearingOf (current.Active (byte.extraOf (byte.moreOf a))) ≡ ignored
       silent = rw o
 
-  view-over : apt (current.Active a) ≡ true → view (byte.givenBy (current.Active a) b w) ≡ looks w (heard (hearingOf (current.Active a)) (w .chip .config) b (machineOf w))
+  view-over : apt (current.Active a) ≡ true
+      → view (byte.givenBy (current.Active a) b w) ≡ looks w (heard (hearingOf (current.Active a)) (w .chip .config) b (machineOf w))
   unfolding byte.purposeOf
   view-over q =
-      ap (λ (t : Bool). view (byte.usedBy (pick t (byte.doneBy (a .kind) (a .command) (a .received) b) (pick (a .«extra_reported») use-for.Quiet use-for.Extra)) a b w))
+      ap (λ (t : Bool). view
+      (byte.usedBy
+      (pick t (byte.doneBy (a .kind) (a .command) (a .received) b) (pick (a .«extra_reported») use-for.Quiet use-for.Extra)) a b w))
       (takes-one (a .kind) (a .received) (over-single (eqb (a .command) 0) (single (a .kind)) o) (had (over a) (eqb (a .received) 0) o q))
       ∙ view-silent (a .«extra_reported»)
       ∙ ap (λ (t : Bool). looks w (heard (pick t ignored (under (orderOf a))) (w .chip .config) b (machineOf w))) (sym o)
@@ -132,7 +144,8 @@ view-given current.Idle b w e q = refl
 view-given current.Ignoring b w e q = refl
 view-given (current.Active a) b w e q = by-cases (over a) (λ o. view-over a b w e o q) (λ o. view-live a b w o)
 
-pub view-data : (b : ℕ) (w : World) → apt (w .chip .stage .current) ≡ true → view (byte.dataByte b w) ≡ looks w (given (w .chip .config) b (machineOf w))
+pub view-data : (b : ℕ) (w : World) → apt (w .chip .stage .current) ≡ true
+    → view (byte.dataByte b w) ≡ looks w (given (w .chip .config) b (machineOf w))
 unfolding byte.dataByte given
 view-data b w q = view-given (w .chip .stage .current) b w refl q
 

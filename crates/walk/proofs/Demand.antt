@@ -19,15 +19,21 @@ use Rattle.controller.specs.Arrives.{arrived}
 use Rattle.controller.specs.TurnedBack.{makingRefused}
 use Rattle.controller.specs.Calls.{takeCall, made, firstChip, firstBuffers}
 use Rattle.controller.specs.Sound.{Sound}
-use Rattle.controller.proofs.Sound.{sound-made, sound-arrived, sound-command, sound-data, sound-reading, sound-reset, sound-take, never-turned, home}
-use Rattle.walk.specs.Machine.{Ask, command, datum, reading, advance, reset, taking, askBusy, askDeadline, askBit, askRow, Machine, Fed, fresh, fed1, framesFed1, framesAt, ran, framesFed, stepped}
-use Rattle.walk.specs.Calls.{Call, refusedBy, writes, turned, next, after, OwnFor, OwnBuffers, IsByte, Bytes, fedAt, fedBy, start, place, stateAt, framesBetween, Demand3}
+use Rattle.controller.proofs.Sound.{sound-made, sound-arrived, sound-command, sound-data}
+use Rattle.controller.proofs.Sound.{sound-reading, sound-reset, sound-take, never-turned, home}
+use Rattle.walk.specs.Machine.{Fed, fresh, fed1, framesFed1, framesAt, ran, framesFed, stepped}
+use Rattle.controller.specs.Ask.{Ask, command, datum, reading, advance, reset, taking, askBusy, askDeadline, askBit, askRow}
+use Rattle.walk.specs.Kept.{Machine}
+use Rattle.walk.specs.Calls.{Call, turned, next, after, OwnFor, OwnBuffers, IsByte, Bytes}
+use Rattle.walk.specs.Calls.{fedAt, fedBy, start, place, stateAt, framesBetween, Demand3}
+use Rattle.controller.specs.Ask.{refusedBy, writes}
 use Rattle.walk.proofs.Seen.{machineOf, View, Calm}
 use Rattle.walk.proofs.Calmness.{calm-stepped, calm-fresh}
 use Rattle.walk.proofs.Aptness.{Apt}
 use Rattle.walk.proofs.Follow.{moved, apt-moved, view-moved}
 use Rattle.walk.proofs.Pixel.{stepped-serves, states-at}
-use Rattle.walk.proofs.Lending.{Gone, back, on, gone, states-long, panelled, serves, take-accepted, sound-accepted, lendingOf, lending, plain, plain-byte, plain-rest, lent-turned, lent-own, Lendable}
+use Rattle.walk.proofs.Lending.{Gone, back, on, gone, states-long, panelled, serves, take-accepted, sound-accepted}
+use Rattle.walk.proofs.Lending.{lendingOf, lending, plain, plain-byte, plain-rest, lent-turned, lent-own, Lendable}
 
 -- ---- the calls before a place, and those from it on
 fed-take : (at : World) (cs : List Call) (i : ℕ) → take i (fedBy at cs) ≡ fedBy at (take i cs)
@@ -86,7 +92,7 @@ start-config : (g : Uc8253Config) (b : Buffers) → makingRefused g b ≡ 0 → 
 unfolding firstChip
 start-config g b e = rw (made-is g b e)
 
-start-machine : (g : Uc8253Config) (b : Buffers) → makingRefused g b ≡ 0 → machineOf (start g b) ≡ fresh g
+pub start-machine : (g : Uc8253Config) (b : Buffers) → makingRefused g b ≡ 0 → machineOf (start g b) ≡ fresh g
 unfolding firstChip firstBuffers fresh
 start-machine g b e = rw (made-is g b e)
 
@@ -118,13 +124,15 @@ pub record Good (g : Uc8253Config) (at : World) : Type 0 where
   pub fit : Apt at
 
 -- an accepted call
-moved-machine : (a : Ask) (at : World) → Sound at → Calm (machineOf at) → Apt at → machineOf (moved a at) ≡ stepped (at .chip .config) (machineOf at) a .machine
+moved-machine : (a : Ask) (at : World) → Sound at → Calm (machineOf at) → Apt at
+    → machineOf (moved a at) ≡ stepped (at .chip .config) (machineOf at) a .machine
 moved-machine a at s c q = ap (λ (v : View). v .machine) (view-moved a at c q (panelled at s))
 
 moved-config : (a : Ask) (at : World) → Sound at → Calm (machineOf at) → Apt at → moved a at .chip .config ≡ at .chip .config
 moved-config a at s c q = ap (λ (v : View). v .config) (view-moved a at c q (panelled at s))
 
-moved-state : (a : Ask) (at : World) (p : ℕ) → Sound at → Calm (machineOf at) → Apt at → p < at .chip .config .panel .sources * at .chip .config .panel .gates
+moved-state : (a : Ask) (at : World) (p : ℕ) → Sound at → Calm (machineOf at) → Apt at
+    → p < at .chip .config .panel .sources * at .chip .config .panel .gates
     → stateAt p (moved a at)
     ≡ pos (walk (at .chip .config .optics .«full_swing») (up (stateAt p at)) (framesAt (at .chip .config) (machineOf at) a p))
 unfolding stateAt framesAt
@@ -136,16 +144,19 @@ moved-state a at p s c q h =
     (stepped-serves (length (at .lent .states)) (at .chip .config) (machineOf at) a (serves at s))
 
 -- one call of the list
-record Along (g : Uc8253Config) (at : World) (c : Call) : Type 0 where
-  good : Good g (next at c)
-  machine : machineOf (next at c) ≡ fed1 g (machineOf at) (fedAt at c)
-  state : (p : ℕ) → p < g .panel .sources * g .panel .gates
+pub record Along (g : Uc8253Config) (at : World) (c : Call) : Type 0 where
+  pub good : Good g (next at c)
+  pub machine : machineOf (next at c) ≡ fed1 g (machineOf at) (fedAt at c)
+  pub state : (p : ℕ) → p < g .panel .sources * g .panel .gates
       → stateAt p (next at c) ≡ pos (walk (g .optics .«full_swing») (up (stateAt p at)) (framesFed1 g (machineOf at) (fedAt at c) p))
 
 -- a state in range is the walk over no frame
-state-still : (at : World) (p : ℕ) → Sound at → p < at .chip .config .panel .sources * at .chip .config .panel .gates → stateAt p at ≡ pos (up (stateAt p at))
+state-still : (at : World) (p : ℕ) → Sound at → p < at .chip .config .panel .sources * at .chip .config .panel .gates
+    → stateAt p at ≡ pos (up (stateAt p at))
 unfolding stateAt
-state-still at p s h = states-in-range (at .chip .config .optics .«full_swing») (at .lent .states) (s .states) p (subst (λ (n : ℕ). p < n) (sym (states-long at s)) h) .is
+state-still at p s h =
+    states-in-range (at .chip .config .optics .«full_swing») (at .lent .states) (s .states) p
+    (subst (λ (n : ℕ). p < n) (sym (states-long at s)) h) .is
 
 along-here : (at : World) (c : Call) → Sound at → Calm (machineOf at) → Apt at → IsByte (c .ask) → Gone at c → Along (at .chip .config) at c
 unfolding fed1 framesFed1
@@ -158,30 +169,35 @@ along-here at c s calm q byte (on b n) = record {
   good = subst (λ (w : World). Good (at .chip .config) w) (sym n) (record {
     config = moved-config (c .ask) at s calm q;
     sound = sound-moved (c .ask) at byte s;
-    calm = subst (λ (m : Machine). Calm m) (sym (moved-machine (c .ask) at s calm q)) (calm-stepped (at .chip .config) (machineOf at) (c .ask) calm);
+    calm =
+        subst (λ (m : Machine). Calm m) (sym (moved-machine (c .ask) at s calm q))
+        (calm-stepped (at .chip .config) (machineOf at) (c .ask) calm);
     fit = apt-moved (c .ask) at q;
   });
   machine = ap machineOf n ∙ rw b (moved-machine (c .ask) at s calm q);
   state = λ p h. ap (stateAt p) n ∙ rw b (moved-state (c .ask) at p s calm q h);
 }
 
-along : (g : Uc8253Config) (at : World) (c : Call) → Good g at → IsByte (c .ask) → OwnFor (writes (c .ask)) at c → Along g at c
-along g at c good byte own = subst (λ (x : Uc8253Config). Along x at c) (good .config) (along-here at c (good .sound) (good .calm) (good .fit) byte (gone at c own))
+pub along : (g : Uc8253Config) (at : World) (c : Call) → Good g at → IsByte (c .ask) → OwnFor (writes (c .ask)) at c → Along g at c
+along g at c good byte own =
+    subst (λ (x : Uc8253Config). Along x at c) (good .config) (along-here at c (good .sound) (good .calm) (good .fit) byte (gone at c own))
 
 -- ---- the list: the machine follows, and the state walks
-after-good : (g : Uc8253Config) (at : World) (cs : List Call) → Good g at → Bytes cs → OwnBuffers at cs → Good g (after at cs)
+pub after-good : (g : Uc8253Config) (at : World) (cs : List Call) → Good g at → Bytes cs → OwnBuffers at cs → Good g (after at cs)
 unfolding after
 after-good g at [] good bytes own = good
 after-good g at (c ∷ cs) good bytes own = after-good g (next at c) cs (along g at c good (bytes .0) (own .0) .good) (bytes .1) (own .1)
 
-after-machine : (g : Uc8253Config) (at : World) (cs : List Call) → Good g at → Bytes cs → OwnBuffers at cs → machineOf (after at cs) ≡ ran g (machineOf at) (fedBy at cs)
+pub after-machine : (g : Uc8253Config) (at : World) (cs : List Call) → Good g at → Bytes cs → OwnBuffers at cs
+    → machineOf (after at cs) ≡ ran g (machineOf at) (fedBy at cs)
 unfolding after ran fedBy
 after-machine g at [] good bytes own = refl
 after-machine g at (c ∷ cs) good bytes own =
     let a : Along g at c = along g at c good (bytes .0) (own .0) in
     after-machine g (next at c) cs (a .good) (bytes .1) (own .1) ∙ ap (λ (m : Machine). ran g m (fedBy (next at c) cs)) (a .machine)
 
-after-state : (g : Uc8253Config) (at : World) (cs : List Call) (p : ℕ) → Good g at → Bytes cs → OwnBuffers at cs → p < g .panel .sources * g .panel .gates
+pub after-state : (g : Uc8253Config) (at : World) (cs : List Call) (p : ℕ) → Good g at → Bytes cs → OwnBuffers at cs
+    → p < g .panel .sources * g .panel .gates
     → stateAt p (after at cs) ≡ pos (walk (g .optics .«full_swing») (up (stateAt p at)) (framesFed g (machineOf at) (fedBy at cs) p))
 unfolding after framesFed fedBy
 after-state g at [] p good bytes own h =
@@ -196,7 +212,7 @@ after-state g at (c ∷ cs) p good bytes own h =
     ∙ ap (λ (z : ℤ). pos (walk swing (up z) rest)) (a .state p h)
     ∙ ap pos (sym (walk-append swing (up (stateAt p at)) first rest))
 
-start-good : (g : Uc8253Config) (b : Buffers) → g .optics .«initial_gray» < 256 → makingRefused g b ≡ 0 → Good g (start g b)
+pub start-good : (g : Uc8253Config) (b : Buffers) → g .optics .«initial_gray» < 256 → makingRefused g b ≡ 0 → Good g (start g b)
 start-good g b gray e = record {
   config = start-config g b e;
   sound = sound-made g b gray e;
@@ -231,20 +247,21 @@ demand3 g b cs gray e bytes own i j le lj p h = record {
 }
 
 -- a call that is lent the place's buffers is never turned back
-accepts : (g : Uc8253Config) (at : World) (c : Call) → Good g at → c .lent ≡ at .lent → turned at c ≡ false
+pub accepts : (g : Uc8253Config) (at : World) (c : Call) → Good g at → c .lent ≡ at .lent → turned at c ≡ false
 unfolding turned
 accepts g at c good l =
     ap (λ (x : Buffers). not (eqb (refusedBy (c .ask) (world (at .chip) x)) 0)) l
     ∙ ap (λ (n : ℕ). not (eqb n 0)) (sound-accepted home never-turned (c .ask) at (good .sound))
 
-pub never-refused : (g : Uc8253Config) (b : Buffers) (cs : List Call) → g .optics .«initial_gray» < 256 → makingRefused g b ≡ 0 → Bytes cs → OwnBuffers (start g b) cs
+pub never-refused : (g : Uc8253Config) (b : Buffers) (cs : List Call) → g .optics .«initial_gray» < 256 → makingRefused g b ≡ 0 → Bytes cs
+    → OwnBuffers (start g b) cs
     → (i : ℕ) (c : Call) → c .lent ≡ place g b cs i .lent → turned (place g b cs i) c ≡ false
 unfolding place
 never-refused g b cs gray e bytes own i c l =
     accepts g (after (start g b) (take i cs)) c
     (after-good g (start g b) (take i cs) (start-good g b gray e) (bytes-take cs i bytes) (own-take (start g b) cs i own)) l
 
--- the hypotheses can be met, whatever is asked
+-- the hypotheses can be met, whatever is asked and whichever calls that may change a lent entry are turned back
 module _ (g : Uc8253Config) where
   lend-own : (at : World) (fs : List Fed) → Good g at → plain fs ≡ true → OwnBuffers at (lending at fs)
   unfolding lending
@@ -257,9 +274,14 @@ module _ (g : Uc8253Config) where
   unfolding lending fedBy
   lend-fed at [] good e = refl
   lend-fed at (f ∷ fs) good e =
-      let acc : (a : Ask) → turned at (record { ask = a; lent = at .lent }) ≡ false = λ a. accepts g at (record { ask = a; lent = at .lent }) good refl in
+      let acc : (a : Ask) → turned at (record { ask = a; lent = at .lent }) ≡ false =
+      λ a. accepts g at (record { ask = a; lent = at .lent }) good refl in
       let here = lent-own at acc f fs e in
-      (λ i. lent-turned at acc f fs e i ∷ lend-fed (next at (lendingOf at f)) fs (along g at (lendingOf at f) good (plain-byte f fs e) here .good) (plain-rest f fs e) i)
+      (λ i. lent-turned at acc f fs e i ∷ lend-fed (next at (lendingOf at f)) fs
+      (along g at (lendingOf at f) good (plain-byte f fs e) here .good) (plain-rest f fs e) i)
 
 pub lendable : Lendable
-lendable g b fs gray e q = record { own = lend-own g (start g b) fs (start-good g b gray e) q; fed = lend-fed g (start g b) fs (start-good g b gray e) q }
+lendable g b fs gray e q = record {
+  own = lend-own g (start g b) fs (start-good g b gray e) q;
+  fed = lend-fed g (start g b) fs (start-good g b gray e) q;
+}

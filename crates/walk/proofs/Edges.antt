@@ -9,7 +9,8 @@ use Rattle.controller.specs.declared.Work.{Work}
 use Rattle.controller.specs.declared.Work.the-variants as work
 use Rattle.controller.specs.declared.notes.Note.{Note}
 use Rattle.controller.specs.declared.notes.Note.the-variants.{Quiet, Told}
-use Rattle.controller.specs.World.{World, onChip, tell, told}
+use Rattle.controller.specs.World.{World, onChip}
+use Rattle.controller.specs.Tell.{tell, told}
 use Rattle.controller.specs.Command.{ignoring, closed, closedBy, closingNote}
 use Rattle.controller.specs.Refresh.{cutRefresh, finished}
 use Rattle.controller.specs.Reset as rst
@@ -17,7 +18,8 @@ use Rattle.walk.specs.Machine.{nothing, quiet, cutJob, cleared, lowered,
 use Rattle.walk.proofs.Seen.{machineOf, View, view, looks, drivenBy}
 
 -- release
-view-raised : (y : Power) (w : World) → w .chip .mode .power ≡ y → view (rst.raisedBy y w) ≡ looks w (raised (w .chip .config) (machineOf w))
+view-raised : (y : Power) (w : World) → w .chip .mode .power ≡ y
+    → view (rst.raisedBy y w) ≡ looks w (raised (w .chip .config) (machineOf w))
 unfolding raised
 view-raised power.Running w e = rw e
 view-raised power.Asleep w e = rw e
@@ -55,11 +57,13 @@ abbrev clearedView : View → View
 clearedView v = record { config = v .config; machine = cleared (v .config) (v .machine); states = v .states }
 
 view-dropped : (w : World)
-    → view (onChip rst.cleared (closed (rst.cut w))) ≡ drivenBy w (record { machine = cleared (w .chip .config) (machineOf w); ended = cutJob (machineOf w .job) (w .chip .now) nothing })
+    → view (onChip rst.cleared (closed (rst.cut w)))
+    ≡ drivenBy w (record { machine = cleared (w .chip .config) (machineOf w); ended = cutJob (machineOf w .job) (w .chip .now) nothing })
 unfolding closed rst.cut
 view-dropped w = view-cleared (rst.cut w .chip .stage .current) (rst.cut w) ∙ ap clearedView (view-cut (w .chip .operation .work) w refl)
 
-view-lowered : (y : Power) (w : World) → w .chip .mode .power ≡ y → view (rst.loweredBy y w) ≡ drivenBy w (lowered (w .chip .config) (quiet (machineOf w)))
+view-lowered : (y : Power) (w : World) → w .chip .mode .power ≡ y
+    → view (rst.loweredBy y w) ≡ drivenBy w (lowered (w .chip .config) (quiet (machineOf w)))
 unfolding lowered
 view-lowered power.Running w e = view-dropped w ∙ rw e
 view-lowered power.Asleep w e = view-dropped w ∙ rw e

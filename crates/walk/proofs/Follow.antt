@@ -9,14 +9,19 @@ use Rattle.log.specs.Log.{takenOf}
 use Rattle.controller.specs.declared.Refresh.{Refresh}
 use Rattle.controller.specs.declared.Work.{Work}
 use Rattle.controller.specs.declared.Work.the-variants as work
-use Rattle.controller.specs.World.{World, onChip, withLog}
+use Rattle.controller.specs.World.{World, onChip}
+use Rattle.controller.specs.Setters.{withLog}
 use Rattle.controller.specs.Arrives.{timed, endedBy, ended, arrived}
 use Rattle.controller.specs.Command.{commandByte}
 use Rattle.controller.specs.DataByte.{dataByte}
 use Rattle.controller.specs.Reading as rd
 use Rattle.controller.specs.Refresh.{endedRefresh, copiedAfter, finished}
 use Rattle.controller.specs.Reset.{resetEdge}
-use Rattle.walk.specs.Machine.{Ask, command, datum, reading, advance, reset, taking, askBusy, askDeadline, askBit, askRow, Noted, Task, powersUp, powersDown, fallsAsleep, resetsSoftly, resetsHardly, drives, Job, idle, until, Machine, withClock, withJob, whole, Out, quiet, done, due, settled, commanded, given, lowered, raised, stepped}
+use Rattle.controller.specs.Ask.{Ask, command, datum, reading, advance, reset, taking, askBusy, askDeadline, askBit, askRow}
+use Rattle.walk.specs.Machine.{whole, Out, quiet, done, reached, due, settled, commanded, given, lowered, raised, stepped}
+use Rattle.walk.specs.Kept.{Noted, Task, powersUp, powersDown, fallsAsleep, resetsSoftly}
+use Rattle.walk.specs.Kept.{resetsHardly, drives, Job, idle, until, Machine}
+use Rattle.walk.specs.Parts.{withClock, withJob}
 use Rattle.walk.proofs.Seen.{machineOf, View, view, statesAfter, drivenBy, Calm, Panelled}
 use Rattle.walk.proofs.Arrival.{view-arrived, waits-arrived}
 use Rattle.walk.proofs.Commands.{view-command}
@@ -28,7 +33,8 @@ use Rattle.walk.proofs.Edges.{view-low, view-high}
 module _ (w : World) where
   numbers-refresh : (r : Refresh) → endedRefresh r w .lent .numbers ≡ w .lent .numbers
   unfolding endedRefresh copiedAfter finished
-  numbers-refresh r = both (λ (v : World). v .lent .numbers ≡ w .lent .numbers) (copiesNewToOld (w .chip .config .variant) (w .chip .regs)) refl refl
+  numbers-refresh r =
+      both (λ (v : World). v .lent .numbers ≡ w .lent .numbers) (copiesNewToOld (w .chip .config .variant) (w .chip .regs)) refl refl
 
   numbers-by : (x : Work) → endedBy x w .lent .numbers ≡ w .lent .numbers
   numbers-by work.Nothing = refl
@@ -41,7 +47,9 @@ module _ (w : World) where
 
   numbers-ended : ended w .lent .numbers ≡ w .lent .numbers
   unfolding ended
-  numbers-ended = both (λ (v : World). v .lent .numbers ≡ w .lent .numbers) (leb (w .chip .operation .until) (w .chip .now)) (numbers-by (w .chip .operation .work)) refl
+  numbers-ended =
+      both (λ (v : World). v .lent .numbers ≡ w .lent .numbers) (leb (w .chip .operation .until) (w .chip .now))
+      (numbers-by (w .chip .operation .work)) refl
 
 numbers-arrived : (t : ℕ) (w : World) → arrived t w .lent .numbers ≡ w .lent .numbers
 unfolding arrived
@@ -71,11 +79,13 @@ module _ (w : World) where
   low-quiet m = refl
 
   low-whole : (r : Noted) (m : Machine) → m .job ≡ idle
-      → lowView (drivenBy w (record { machine = m; ended = whole r })) ≡ drivenBy w (lowered (w .chip .config) (record { machine = m; ended = whole r }))
+      → lowView (drivenBy w (record { machine = m; ended = whole r }))
+      ≡ drivenBy w (lowered (w .chip .config) (record { machine = m; ended = whole r }))
   unfolding lowered
   low-whole r m e = by-cases (m .low) (λ l. rw l) (λ l. rw (e, l))
 
-  low-done : (k : Task) (m : Machine) → m .job ≡ idle → lowView (drivenBy w (done (w .chip .config) k m)) ≡ drivenBy w (lowered (w .chip .config) (done (w .chip .config) k m))
+  low-done : (k : Task) (m : Machine) → m .job ≡ idle
+      → lowView (drivenBy w (done (w .chip .config) k m)) ≡ drivenBy w (lowered (w .chip .config) (done (w .chip .config) k m))
   low-done powersUp m e = refl
   low-done powersDown m e = refl
   low-done fallsAsleep m e = refl
@@ -85,13 +95,16 @@ module _ (w : World) where
       low-whole r (done (w .chip .config) (drives r) m .machine)
       (both (λ (n : Machine). n .job ≡ idle) (copiesNewToOld (w .chip .config .variant) (m .regs)) e e)
 
-  low-due : (j : Job) (m : Machine) → lowView (drivenBy w (due (w .chip .config) j m)) ≡ drivenBy w (lowered (w .chip .config) (due (w .chip .config) j m))
+  low-due : (j : Job) (m : Machine)
+      → lowView (drivenBy w (due (w .chip .config) j m)) ≡ drivenBy w (lowered (w .chip .config) (due (w .chip .config) j m))
   low-due idle m = refl
   low-due (until e k) m =
-      both (λ (o : Out). lowView (drivenBy w o) ≡ drivenBy w (lowered (w .chip .config) o)) (leb e (m .clock)) (low-done k (withJob idle m) refl) refl
+      both (λ (o : Out). lowView (drivenBy w o) ≡ drivenBy w (lowered (w .chip .config) o))
+      (reached e m) (low-done k (withJob idle m) refl) refl
 
 low-settled : (t : ℕ) (w : World)
-    → lowView (drivenBy w (settled (w .chip .config) t (machineOf w))) ≡ drivenBy w (lowered (w .chip .config) (settled (w .chip .config) t (machineOf w)))
+    → lowView (drivenBy w (settled (w .chip .config) t (machineOf w)))
+    ≡ drivenBy w (lowered (w .chip .config) (settled (w .chip .config) t (machineOf w)))
 unfolding settled
 low-settled t w = low-due w (machineOf w .job) (withClock (max (w .chip .now) t) (machineOf w))
 
@@ -121,11 +134,13 @@ apt-moved askDeadline w q = q
 apt-moved (askBit older x y) w q = q
 apt-moved (askRow y) w q = q
 
-pub view-moved : (a : Ask) (w : World) → Calm (machineOf w) → Apt w → Panelled w → view (moved a w) ≡ drivenBy w (stepped (w .chip .config) (machineOf w) a)
+pub view-moved : (a : Ask) (w : World) → Calm (machineOf w) → Apt w → Panelled w
+    → view (moved a w) ≡ drivenBy w (stepped (w .chip .config) (machineOf w) a)
 unfolding stepped
 view-moved (command t b) w c q p =
     view-command b (arrived t w) (panelled-arrived t w c p) (waits-arrived t w)
-    ∙ ap (λ (v : View). record { config = v .config; machine = commanded (v .config) b (v .machine); states = v .states }) (view-arrived t w c)
+    ∙ ap (λ (v : View). record { config = v .config; machine = commanded (v .config) b (v .machine); states = v .states })
+    (view-arrived t w c)
 view-moved (datum t b) w c q p =
     view-data b (arrived t w) (apt-arrived t w q)
     ∙ ap (λ (v : View). record { config = v .config; machine = given (v .config) b (v .machine); states = v .states }) (view-arrived t w c)

@@ -17,15 +17,18 @@ use Rattle.controller.specs.World.{World, Buffers, world}
 use Rattle.controller.specs.TurnedBack.{foreignRecord, turnedBack, lengthsFit, lentFits, lentRefused, refreshRuns, makingRefused}
 use Rattle.controller.specs.Calls as calls
 use Rattle.controller.specs.Sound.{Sound}
-use Rattle.walk.specs.Machine.{Ask, command, datum, reading, advance, reset, taking, askBusy, askDeadline, askBit, askRow, Fed}
-use Rattle.walk.specs.Calls.{Call, did, refusedBy, writes, handed, result, turned, next, OwnFor, OwnBuffers, IsByte, Bytes, fedAt, fedBy, start}
+use Rattle.controller.proofs.TurnedAway.{did-no}
+use Rattle.walk.specs.Machine.{Fed}
+use Rattle.controller.specs.Ask.{Ask, command, datum, reading, advance, reset, taking, askBusy, askDeadline, askBit, askRow}
+use Rattle.walk.specs.Calls.{Call, handed, result, turned, next, OwnFor, OwnBuffers, IsByte, Bytes, fedAt, fedBy, start}
+use Rattle.controller.specs.Ask.{did, refusedBy, writes}
 use Rattle.walk.proofs.Seen.{jobOf, machineOf, Panelled}
 use Rattle.walk.proofs.Follow.{moved}
 use Rattle.walk.proofs.Pixel.{ServesJob}
 
 -- ---- what the refusal's number decides
 pub did-yes : (a : Ask) (w : World) → eqb (refusedBy a w) 0 ≡ true → did a w ≡ moved a w
-unfolding did refusedBy calls.called calls.takeCall
+unfolding calls.called calls.takeCall
 did-yes (command t c) w e = rw e
 did-yes (datum t b) w e = rw e
 did-yes (reading t) w e = rw e
@@ -37,26 +40,13 @@ did-yes askDeadline w e = refl
 did-yes (askBit older x y) w e = refl
 did-yes (askRow y) w e = refl
 
-pub did-no : (a : Ask) (w : World) → eqb (refusedBy a w) 0 ≡ false → did a w ≡ w
-unfolding did refusedBy calls.called calls.takeCall
-did-no (command t c) w e = rw e
-did-no (datum t b) w e = rw e
-did-no (reading t) w e = rw e
-did-no (advance t) w e = rw e
-did-no (reset t asserted) w e = rw e
-did-no taking w e = rw e
-did-no (askBusy t) w e = refl
-did-no askDeadline w e = refl
-did-no (askBit older x y) w e = refl
-did-no (askRow y) w e = refl
-
 -- taking the rows and the questions change no lent entry, and look at the record alone
 abbrev pub Spares : Bool → Ask → World → Type 0
 Spares true a w = Unit {0}
 Spares false a w = did a w .lent ≡ w .lent
 
 pub spares : (a : Ask) (w : World) → Spares (writes a) a w
-unfolding did calls.takeCall
+unfolding calls.takeCall
 spares (command t c) w = tt
 spares (datum t b) w = tt
 spares (reading t) w = tt
@@ -95,10 +85,12 @@ turned-yes : (at : World) (c : Call) → eqb (refusedBy (c .ask) (handed at c)) 
 unfolding turned
 turned-yes at c e = rw e
 
-next-on : (at : World) (c : Call) → eqb (refusedBy (c .ask) (handed at c)) 0 ≡ true → (writes (c .ask) ≡ true → c .lent ≡ at .lent) → next at c ≡ moved (c .ask) at
+next-on : (at : World) (c : Call) → eqb (refusedBy (c .ask) (handed at c)) 0 ≡ true → (writes (c .ask) ≡ true → c .lent ≡ at .lent)
+    → next at c ≡ moved (c .ask) at
 unfolding next result
 next-on at c e own =
-    ap (λ (w : World). world (w .chip) (pick (turned at c || not (writes (c .ask))) (at .lent) (w .lent))) (did-yes (c .ask) (handed at c) e)
+    ap (λ (w : World). world (w .chip) (pick (turned at c || not (writes (c .ask))) (at .lent) (w .lent)))
+    (did-yes (c .ask) (handed at c) e)
     ∙ place-on (c .ask) at (c .lent) (turned at c) (turned-no at c e) own
 
 next-back : (at : World) (c : Call) → eqb (refusedBy (c .ask) (handed at c)) 0 ≡ false → next at c ≡ at
@@ -170,7 +162,8 @@ panelled w s = record {
 
 module _ (w : World) (s : Sound w) where
   serves-work : (x : Work) → w .chip .operation .work ≡ x
-      → ServesJob (length (w .lent .states)) (jobOf x (w .chip .operation .started) (w .chip .operation .until) (w .chip .waveform) (w .lent .numbers))
+      → ServesJob (length (w .lent .states))
+      (jobOf x (w .chip .operation .started) (w .chip .operation .until) (w .chip .waveform) (w .lent .numbers))
   serves-work work.Nothing e = tt
   serves-work work.PowerOn e = tt
   serves-work work.PowerOff e = tt
@@ -196,8 +189,9 @@ module _ (home : (w : World) → Sound w → foreignRecord (w .chip) ≡ false) 
   unfolding calls.takingRefused
   take-accepted w s = lent-accepted w s _ (lengths w (s .fits) .rows)
 
-  pub sound-accepted : ((asserted : Bool) (t : ℕ) (w : World) → Sound w → turnedBack asserted t w ≡ 0) → (a : Ask) (w : World) → Sound w → refusedBy a w ≡ 0
-  unfolding refusedBy calls.questionRefused calls.bitRefused calls.rowRefused
+  pub sound-accepted : ((asserted : Bool) (t : ℕ) (w : World) → Sound w → turnedBack asserted t w ≡ 0) → (a : Ask) (w : World) → Sound w
+      → refusedBy a w ≡ 0
+  unfolding calls.questionRefused calls.bitRefused calls.rowRefused
   sound-accepted never (command t c) w s = never false t w s
   sound-accepted never (datum t b) w s = never false t w s
   sound-accepted never (reading t) w s = never false t w s
@@ -209,7 +203,7 @@ module _ (home : (w : World) → Sound w → foreignRecord (w .chip) ≡ false) 
   sound-accepted never (askBit older x y) w s = lent-accepted w s _ (plane-long older w (lengths w (s .fits)))
   sound-accepted never (askRow y) w s = lent-accepted w s _ (lengths w (s .fits) .picture)
 
--- ---- lists that can be: the calls that are to be turned back are lent nothing, the others the place's buffers
+-- ---- lists that can be: the calls that are to be turned back are lent empty buffers, the others the place's own
 abbrev pub noBuffers : Buffers
 noBuffers = record { old = []; new = []; states = []; numbers = []; picture = []; rows = [] }
 
@@ -269,7 +263,7 @@ unfolding turnedBack lengthsFit
 lent-none asserted t p = by-cases (foreignRecord p) (λ e. rw e) (λ e. rw e)
 
 turned-none : (a : Ask) (at : World) → writes a ≡ true → turned at (record { ask = a; lent = noBuffers }) ≡ true
-unfolding turned refusedBy
+unfolding turned
 turned-none (command t c) at e = rw (lent-none false t (at .chip))
 turned-none (datum t b) at e = rw (lent-none false t (at .chip))
 turned-none (reading t) at e = rw (lent-none false t (at .chip))
@@ -287,7 +281,8 @@ module _ (at : World) (accepts : (a : Ask) → turned at (record { ask = a; lent
   turned-by a true e = turned-none a at e
   turned-by a false e = accepts a
 
-  own-by : (t : Bool) (a : Ask) (b : Bool) → pick b (writes a) true ≡ true → OwnFor t at (record { ask = a; lent = pick b noBuffers (at .lent) })
+  own-by : (t : Bool) (a : Ask) (b : Bool) → pick b (writes a) true ≡ true
+      → OwnFor t at (record { ask = a; lent = pick b noBuffers (at .lent) })
   own-by false a b e = tt
   own-by true a false e = λ q. refl
   own-by true a true e = λ q. absurd (true≢false (sym (turned-none a at e) ∙ q))
@@ -298,10 +293,13 @@ module _ (at : World) (accepts : (a : Ask) → turned at (record { ask = a; lent
   pub lent-own : (f : Fed) (fs : List Fed) → plain (f ∷ fs) ≡ true → OwnFor (writes (f .ask)) at (lendingOf at f)
   lent-own f fs e = own-by (writes (f .ask)) (f .ask) (f .back) (plain-back f fs e)
 
--- every list of asks can be met, and is fed as it stands
+-- calls that lend so meet the condition on what is lent, and the walk is fed just this list
 pub record Lent (g : Uc8253Config) (b : Buffers) (fs : List Fed) : Type 0 where
   pub own : OwnBuffers (start g b) (lending (start g b) fs)
   pub fed : fedBy (start g b) (lending (start g b) fs) ≡ fs
 
+-- so it is, after an accepted making, with each list whose bytes are bytes and in which only calls that may change a lent entry are
+-- turned back; lists in which the taking of the rows or a question is turned back are left out
 abbrev pub Lendable : Type 0
-Lendable = (g : Uc8253Config) (b : Buffers) (fs : List Fed) → g .optics .«initial_gray» < 256 → makingRefused g b ≡ 0 → plain fs ≡ true → Lent g b fs
+Lendable = (g : Uc8253Config) (b : Buffers) (fs : List Fed) → g .optics .«initial_gray» < 256 → makingRefused g b ≡ 0 → plain fs ≡ true
+    → Lent g b fs

@@ -10,5 +10,8 @@ pub mod Follow
 pub mod Pixel
 pub mod Lending
 pub mod Demand
+pub mod OnePixel
 pub mod Example
+pub mod TwoDriven
+pub mod Inhabited
 pub mod Acceptance

@@ -15,7 +15,8 @@ listed : (l : List ℕ) (g : ℕ → ℕ) (from : ℕ) → ((i : ℕ) → i < le
 listed [] g from h = refl
 listed (x ∷ l) g from h =
     (λ i. head i ∷ l)
-    ∙ ap (λ (t : List ℕ). g from ∷ t) (listed l g (suc from) (λ i k. h (suc i) (omega arith) ∙ ap g {x = from + suc i} {y = suc from + i} (omega arith)))
+    ∙ ap (λ (t : List ℕ). g from ∷ t)
+    (listed l g (suc from) (λ i k. h (suc i) (omega arith) ∙ ap g {x = from + suc i} {y = suc from + i} (omega arith)))
   where
     head : x ≡ g from
     head = h 0 (omega arith) ∙ ap g {x = from + 0} {y = from} (omega arith)
@@ -27,9 +28,12 @@ row-below n m p h = elim (decLe m (p / n)) [
   | no k ↦ omega arith
 ]
 
-pub rows-tabulated : (f : ℕ → ℕ → ℕ) (n m : ℕ) (l : List ℕ) → 0 < n → length l ≡ n * m → rowsFilled f n m l ≡ tabulate (λ p. f (p % n) (p / n)) 0 (n * m)
+pub rows-tabulated : (f : ℕ → ℕ → ℕ) (n m : ℕ) (l : List ℕ) → 0 < n → length l ≡ n * m
+    → rowsFilled f n m l ≡ tabulate (λ p. f (p % n) (p / n)) 0 (n * m)
 rows-tabulated f n m l some e =
-    listed (rowsFilled f n m l) (λ p. f (p % n) (p / n)) 0 (λ p h. at p (subst (λ (k : ℕ). p < k) (length-rows f n m l ∙ e) h) ∙ ap (λ (q : ℕ). f (q % n) (q / n)) {x = p} {y = 0 + p} (omega arith))
+    listed (rowsFilled f n m l) (λ p. f (p % n) (p / n)) 0
+    (λ p h. at p (subst (λ (k : ℕ). p < k) (length-rows f n m l ∙ e) h)
+    ∙ ap (λ (q : ℕ). f (q % n) (q / n)) {x = p} {y = 0 + p} (omega arith))
     ∙ ap (tabulate (λ p. f (p % n) (p / n)) 0) (length-rows f n m l ∙ e)
   where
     at : (p : ℕ) → p < n * m → getD (rowsFilled f n m l) p 0 ≡ f (p % n) (p / n)

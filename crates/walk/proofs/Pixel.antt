@@ -3,7 +3,7 @@ use mathlib.Core.Path.{_≡_, refl, sym, ap, subst, _∙_}
 use mathlib.Core.Bool.{Bool, true, false}
 use mathlib.Core.List.{List, []}
 use Prim.Native.Nat.{ℕ, zero, suc, _<_, max}
-use lib.Dec.{eqb, leb}
+use lib.Dec.{eqb}
 use lib.IntN.{ℤ, pos}
 use lib.ListN.{length, getD, take}
 use borrow.Author.Tests.{eqb-true}
@@ -19,7 +19,12 @@ use Rattle.pixels.specs.Drive.{byNumber, framesFor}
 use Rattle.pixels.proofs.ListLaws.{beside-at}
 use Rattle.pixels.proofs.StateLaws.{numbers-known, states-in-range}
 use Rattle.controller.specs.Refresh.{walked}
-use Rattle.walk.specs.Machine.{Ask, command, datum, reading, advance, reset, taking, askBusy, askDeadline, askBit, askRow, Noted, Task, powersUp, powersDown, fallsAsleep, resetsSoftly, resetsHardly, drives, Job, idle, until, Machine, withClock, withJob, Ended, nothing, whole, cut, framesOn, framesBy, Out, done, due, settled, cutTask, cutJob, lowered, stepped}
+use Rattle.controller.specs.Ask.{Ask, command, datum, reading, advance, reset, taking, askBusy, askDeadline, askBit, askRow}
+use Rattle.walk.specs.Machine.{Ended, nothing, whole, cut, framesOn, framesBy, Out, done}
+use Rattle.walk.specs.Machine.{reached, due, settled, cutTask, cutJob, lowered, stepped}
+use Rattle.walk.specs.Kept.{Noted, Task, powersUp, powersDown, fallsAsleep, resetsSoftly}
+use Rattle.walk.specs.Kept.{resetsHardly, drives, Job, idle, until, Machine}
+use Rattle.walk.specs.Parts.{withClock, withJob}
 use Rattle.walk.proofs.Seen.{statesAfter}
 
 -- the frames of a number that is one of 1, 2, 3, 4, 255
@@ -74,7 +79,7 @@ module _ (n : ℕ) (g : Uc8253Config) where
 
   due-serves : (j : Job) (m : Machine) → ServesJob n j → ServesEnd n (due g j m .ended)
   due-serves idle m s = tt
-  due-serves (until e k) m s = both (λ (o : Out). ServesEnd n (o .ended)) (leb e (m .clock)) (done-serves k (withJob idle m) s) tt
+  due-serves (until e k) m s = both (λ (o : Out). ServesEnd n (o .ended)) (reached e m) (done-serves k (withJob idle m) s) tt
 
   done-idle : (k : Task) (m : Machine) → m .job ≡ idle → done g k m .machine .job ≡ idle
   done-idle powersUp m e = e
@@ -87,7 +92,8 @@ module _ (n : ℕ) (g : Uc8253Config) where
   due-job : (j : Job) (m : Machine) → ServesJob n (m .job) → ServesJob n (due g j m .machine .job)
   due-job idle m s = s
   due-job (until e k) m s =
-      both (λ (o : Out). ServesJob n (o .machine .job)) (leb e (m .clock)) (subst (λ (x : Job). ServesJob n x) (sym (done-idle k (withJob idle m) refl)) tt) s
+      both (λ (o : Out). ServesJob n (o .machine .job)) (reached e m)
+      (subst (λ (x : Job). ServesJob n x) (sym (done-idle k (withJob idle m) refl)) tt) s
 
   settled-serves : (t : ℕ) (m : Machine) → ServesJob n (m .job) → ServesEnd n (settled g t m .ended)
   unfolding settled
@@ -111,7 +117,8 @@ module _ (n : ℕ) (g : Uc8253Config) where
 
   lowered-serves : (o : Out) → ServesJob n (o .machine .job) → ServesEnd n (o .ended) → ServesEnd n (lowered g o .ended)
   unfolding lowered
-  lowered-serves o s q = both (λ (x : Out). ServesEnd n (x .ended)) (o .machine .low) q (cut-job (o .machine .job) (o .machine .clock) (o .ended) s q)
+  lowered-serves o s q =
+      both (λ (x : Out). ServesEnd n (x .ended)) (o .machine .low) q (cut-job (o .machine .job) (o .machine .clock) (o .ended) s q)
 
   pub stepped-serves : (m : Machine) (a : Ask) → ServesJob n (m .job) → ServesEnd n (stepped g m a .ended)
   unfolding stepped
@@ -130,12 +137,14 @@ module _ (n : ℕ) (g : Uc8253Config) where
 -- ---- the state at pixel p
 module _ (swing : ℕ) (black : Bool) (ss : List ℤ) (p : ℕ) (h : p < length ss) where
   walked-at : (f : ℕ → List ℤ) (r : Noted) → Serves (length ss) r
-      → getD (walked swing f (r .numbers) ss) p (pos 0) ≡ pos (walk swing (up (getD ss p (pos 0))) (pick (eqb (getD (r .numbers) p 255) 255) [] (f (getD (r .numbers) p 255))))
+      → getD (walked swing f (r .numbers) ss) p (pos 0)
+      ≡ pos (walk swing (up (getD ss p (pos 0))) (pick (eqb (getD (r .numbers) p 255) 255) [] (f (getD (r .numbers) p 255))))
   unfolding walked
   walked-at f r s =
       let k : p < length (r .numbers) = subst (λ (n : ℕ). p < n) (sym (s .long)) h in
       beside-at (λ n z. pos (walk swing (up z) (framesFor f n))) p (r .numbers) ss 255 (pos 0) k h
-      ∙ ap (λ (ds : List ℤ). pos (walk swing (up (getD ss p (pos 0))) ds)) (frames-known f (getD (r .numbers) p 255) (numbers-known (r .numbers) (s .known) p k))
+      ∙ ap (λ (ds : List ℤ). pos (walk swing (up (getD ss p (pos 0))) ds))
+      (frames-known f (getD (r .numbers) p 255) (numbers-known (r .numbers) (s .known) p k))
 
   pub states-at : (e : Ended) → everyState swing ss ≡ true → ServesEnd (length ss) e
       → getD (statesAfter swing black e ss) p (pos 0) ≡ pos (walk swing (up (getD ss p (pos 0))) (framesBy black e p))

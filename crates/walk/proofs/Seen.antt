@@ -22,7 +22,9 @@ use Rattle.controller.specs.declared.Work.the-variants as work
 use Rattle.controller.specs.World.{World}
 use Rattle.controller.specs.Command.{inReset, asleep}
 use Rattle.controller.specs.Refresh.{walked}
-use Rattle.walk.specs.Machine.{Order, Hearing, none, ignored, under, Job, idle, until, powersUp, powersDown, fallsAsleep, resetsSoftly, resetsHardly, drives, Machine, Ended, nothing, whole, cut, Out}
+use Rattle.walk.specs.Machine.{Ended, nothing, whole, cut, Out}
+use Rattle.walk.specs.Kept.{Order, Hearing, none, ignored, under, Job, idle, until, powersUp}
+use Rattle.walk.specs.Kept.{powersDown, fallsAsleep, resetsSoftly, resetsHardly, drives, Machine}
 
 abbrev pub orderOf : Active → Order
 orderOf a = record { byte = a .command; kind = a .kind; count = a .received; cursor = a .cursor }
@@ -99,7 +101,8 @@ abbrev pub drivenBy : World → Out → View
 drivenBy w o = record {
   config = w .chip .config;
   machine = o .machine;
-  states = statesAfter (w .chip .config .optics .«full_swing») (w .chip .config .optics .«positive_drives_black») (o .ended) (w .lent .states);
+  states =
+      statesAfter (w .chip .config .optics .«full_swing») (w .chip .config .optics .«positive_drives_black») (o .ended) (w .lent .states);
 }
 
 abbrev pub live : Hearing → Bool

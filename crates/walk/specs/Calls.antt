@@ -13,53 +13,16 @@ use Rattle.base.specs.Pick.{pick}
 use Rattle.config.specs.declared.Uc8253Config.{Uc8253Config}
 use Rattle.glass.specs.Walk.{walk, highest, lowest, Coalesces}
 use Rattle.controller.specs.World.{World, Buffers, world}
-use Rattle.controller.specs.TurnedBack.{turnedBack, makingRefused}
-use Rattle.controller.specs.Calls.{commandCall, dataCall, readCall, resetCall, advanceCall, takeCall, takingRefused, questionRefused, bitRefused, rowRefused, made}
-use Rattle.walk.specs.Machine.{Ask, command, datum, reading, advance, reset, taking, askBusy, askDeadline, askBit, askRow, Fed, fresh, ran, framesFed}
+use Rattle.controller.specs.TurnedBack.{makingRefused}
+use Rattle.controller.specs.Calls.{made}
+use Rattle.walk.specs.Machine.{Fed, fresh, ran, framesFed}
+use Rattle.controller.specs.Ask.{Ask, command, datum, reading, advance, reset, taking, askBusy, askDeadline, askBit, askRow}
+use Rattle.controller.specs.Ask.{did, refusedBy, writes}
 
 -- a call of the list: its kind and arguments, and the buffers that it is lent
 pub record Call : Type 0 where
   pub ask : Ask
   pub lent : Buffers
-
--- what each call makes of a record and what is lent; a question gives back no record, and the last one stands
-unfoldable pub did : Ask → World → World
-did (command t c) w = commandCall t c w
-did (datum t b) w = dataCall t b w
-did (reading t) w = readCall t w
-did (advance t) w = advanceCall t w
-did (reset t asserted) w = resetCall t asserted w
-did taking w = takeCall w
-did (askBusy t) w = w
-did askDeadline w = w
-did (askBit older x y) w = w
-did (askRow y) w = w
-
--- the number of its refusal, 0 if it is accepted
-unfoldable pub refusedBy : Ask → World → ℕ
-refusedBy (command t c) w = turnedBack false t w
-refusedBy (datum t b) w = turnedBack false t w
-refusedBy (reading t) w = turnedBack false t w
-refusedBy (advance t) w = turnedBack false t w
-refusedBy (reset t asserted) w = turnedBack asserted t w
-refusedBy taking w = takingRefused (w .chip) (w .lent .rows)
-refusedBy (askBusy t) w = questionRefused (w .chip)
-refusedBy askDeadline w = questionRefused (w .chip)
-refusedBy (askBit older x y) w = bitRefused (w .chip) (pick older (w .lent .old) (w .lent .new))
-refusedBy (askRow y) w = rowRefused (w .chip) (w .lent .picture)
-
--- the calls that may change a lent entry; taking the rows and the questions change none
-abbrev pub writes : Ask → Bool
-writes (command t c) = true
-writes (datum t b) = true
-writes (reading t) = true
-writes (advance t) = true
-writes (reset t asserted) = true
-writes taking = false
-writes (askBusy t) = false
-writes askDeadline = false
-writes (askBit older x y) = false
-writes (askRow y) = false
 
 -- a place: the record last given back, and what the making's buffers hold
 -- the call there gets that record, and whatever it is lent
@@ -72,8 +35,9 @@ result at c = did (c .ask) (handed at c)
 unfoldable pub turned : World → Call → Bool
 turned at c = not (eqb (refusedBy (c .ask) (handed at c)) 0)
 
--- the place after it: the record given back; and the making's buffers as the call leaves them, if it was accepted and may change them (it was lent them),
--- else as they were (whatever was lent, such a call changes no lent entry, and nobody else writes these)
+-- the place after it: the record given back; and the making's buffers as the call leaves them,
+-- if it was accepted and may change them (it was lent them), else as they were
+-- (whatever was lent, such a call changes no lent entry, and nobody else writes these)
 unfoldable pub next : World → Call → World
 next at c = world (result at c .chip) (pick (turned at c || not (writes (c .ask))) (at .lent) (result at c .lent))
 
@@ -134,11 +98,13 @@ framesBetween g b cs i j p =
 -- the claim about two places and a pixel: its state moves as the walk does; and the walk ends in the same state from every start
 -- exactly when its highest and lowest running sums lie at least the full swing apart
 pub record Walked (g : Uc8253Config) (b : Buffers) (cs : List Call) (i j p : ℕ) : Type 0 where
-  pub moves : stateAt p (place g b cs j) ≡ pos (walk (g .optics .«full_swing») (up (stateAt p (place g b cs i))) (framesBetween g b cs i j p))
+  pub moves :
+      stateAt p (place g b cs j) ≡ pos (walk (g .optics .«full_swing») (up (stateAt p (place g b cs i))) (framesBetween g b cs i j p))
   pub same : Coalesces (g .optics .«full_swing») (framesBetween g b cs i j p)
       ↔ (pos (g .optics .«full_swing») ≤ℤ (highest (pos 0) (framesBetween g b cs i j p) -ℤ lowest (pos 0) (framesBetween g b cs i j p)))
 
 abbrev pub Demand3 : Type 0
 Demand3 =
-    (g : Uc8253Config) (b : Buffers) (cs : List Call) → g .optics .«initial_gray» < 256 → makingRefused g b ≡ 0 → Bytes cs → OwnBuffers (start g b) cs
+    (g : Uc8253Config) (b : Buffers) (cs : List Call) → g .optics .«initial_gray» < 256 → makingRefused g b ≡ 0
+    → Bytes cs → OwnBuffers (start g b) cs
     → (i j : ℕ) → i ≤ j → j ≤ length cs → (p : ℕ) → p < g .panel .sources * g .panel .gates → Walked g b cs i j p

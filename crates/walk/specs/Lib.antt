@@ -1,3 +1,6 @@
+pub mod Kept
+pub mod Parts
 pub mod Machine
 pub mod Calls
+pub mod OnePixel
 pub mod Table

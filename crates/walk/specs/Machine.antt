@@ -1,6 +1,7 @@
--- Document 01, "The walk": the walk's own machine. It names no record handed in or back, no lent buffer, no state of the glass, no picture and no diagnostic.
+-- Document 01, "The walk": the walk's own machine. It names no record handed in or back, no lent buffer,
+-- no state of the glass, no picture and no diagnostic.
 use mathlib.Core.Bool.{Bool, true, false, not, _&&_, _||_}
-use mathlib.Core.List.{List, [], _∷_, _++_, map}
+use mathlib.Core.List.{List, [], _∷_, _++_}
 use Prim.Native.Nat.{ℕ, zero, suc, _+_, _*_, _-_, _/_, _%_, min, max}
 use lib.Dec.{eqb, ltb, leb}
 use lib.IntN.{ℤ}
@@ -12,14 +13,11 @@ use Rattle.command.specs.declared.kinds.Kind.{Kind}
 use Rattle.command.specs.declared.kinds.Kind.the-variants as kind
 use Rattle.command.specs.Kinds.{kindOf, takesByte}
 use Rattle.registers.specs.declared.Area.{Area}
-use Rattle.registers.specs.declared.Registers.{Registers}
-use Rattle.registers.specs.declared.luts.Luts.{Luts}
 use Rattle.registers.specs.Bytes.{byteOf}
 use Rattle.registers.specs.Flags.{bitSet, copiesNewToOld}
-use Rattle.registers.specs.Luts.{resetLuts, lutByteOf, lutBytes}
+use Rattle.registers.specs.Luts.{resetLuts, lutByteOf}
 use Rattle.registers.specs.Reset.{resetOf}
 use Rattle.registers.specs.Written.{writtenOf}
-use Rattle.ram.specs.declared.Cursor.{Cursor}
 use Rattle.ram.specs.Copy.{copied}
 use Rattle.ram.specs.Write.{written, nextOf}
 use Rattle.waveform.specs.declared.Waveform.{Waveform}
@@ -27,92 +25,10 @@ use Rattle.waveform.specs.Levels.{levelsOf}
 use Rattle.waveform.specs.Tables.{waveformOf, durationOf}
 use Rattle.waveform.specs.Frames.{framesOf}
 use Rattle.numbers.specs.Number.{pixelsOf, numberOf}
-
--- ---- a call's kind and arguments, without record and buffers
--- times, command and data bytes, the reset line (true: asserted), a plane (true: the old one), column and row
-pub data Ask : Type 0 where
-  command datum : ℕ → ℕ → Ask
-  reading advance : ℕ → Ask
-  reset : ℕ → Bool → Ask
-  taking : Ask
-  askBusy : ℕ → Ask
-  askDeadline : Ask
-  askBit : Bool → ℕ → ℕ → Ask
-  askRow : ℕ → Ask
-
--- ---- what the machine keeps
--- a command whose data bytes are taken or counted: its byte, its kind, the data bytes so far, and where the next pixel byte goes
-pub record Order : Type 0 where
-  pub byte : ℕ
-  pub kind : Kind
-  pub count : ℕ
-  pub cursor : Cursor
-
--- whose data bytes come now: of no command since making or a reset by pin; of one that is ignored; of a command under way
-pub data Hearing : Type 0 where
-  none ignored : Hearing
-  under : Order → Hearing
-
--- what a refresh's start notes: its time, the tables, levels and period, the written area, and each pixel's number
-pub record Noted : Type 0 where
-  pub since : ℕ
-  pub wave : Waveform
-  pub area : Area
-  pub numbers : List ℕ
-
--- what an operation does: 04, 02, 07, the resets by 00 and by pin, 12
-pub data Task : Type 0 where
-  powersUp powersDown fallsAsleep resetsSoftly resetsHardly : Task
-  drives : Noted → Task
-
--- the running operation, with its end
-pub data Job : Type 0 where
-  idle : Job
-  until : ℕ → Task → Job
-
-pub record Machine : Type 0 where
-  pub clock : ℕ
-  -- the reset line is asserted; deep sleep; the supplies are up
-  pub low : Bool
-  pub sleep : Bool
-  pub power : Bool
-  pub regs : Registers
-  pub luts : Luts
-  pub hears : Hearing
-  pub old : List ℕ
-  pub new : List ℕ
-  pub job : Job
-
--- one part anew
-abbrev pub withClock : ℕ → Machine → Machine
-withClock x m = record { clock = x; low = m .low; sleep = m .sleep; power = m .power; regs = m .regs; luts = m .luts; hears = m .hears; old = m .old; new = m .new; job = m .job }
-
-abbrev pub withLow : Bool → Machine → Machine
-withLow x m = record { clock = m .clock; low = x; sleep = m .sleep; power = m .power; regs = m .regs; luts = m .luts; hears = m .hears; old = m .old; new = m .new; job = m .job }
-
-abbrev pub withSleep : Bool → Machine → Machine
-withSleep x m = record { clock = m .clock; low = m .low; sleep = x; power = m .power; regs = m .regs; luts = m .luts; hears = m .hears; old = m .old; new = m .new; job = m .job }
-
-abbrev pub withPower : Bool → Machine → Machine
-withPower x m = record { clock = m .clock; low = m .low; sleep = m .sleep; power = x; regs = m .regs; luts = m .luts; hears = m .hears; old = m .old; new = m .new; job = m .job }
-
-abbrev pub withRegs : Registers → Machine → Machine
-withRegs x m = record { clock = m .clock; low = m .low; sleep = m .sleep; power = m .power; regs = x; luts = m .luts; hears = m .hears; old = m .old; new = m .new; job = m .job }
-
-abbrev pub withLuts : Luts → Machine → Machine
-withLuts x m = record { clock = m .clock; low = m .low; sleep = m .sleep; power = m .power; regs = m .regs; luts = x; hears = m .hears; old = m .old; new = m .new; job = m .job }
-
-abbrev pub withHears : Hearing → Machine → Machine
-withHears x m = record { clock = m .clock; low = m .low; sleep = m .sleep; power = m .power; regs = m .regs; luts = m .luts; hears = x; old = m .old; new = m .new; job = m .job }
-
-abbrev pub withOld : List ℕ → Machine → Machine
-withOld x m = record { clock = m .clock; low = m .low; sleep = m .sleep; power = m .power; regs = m .regs; luts = m .luts; hears = m .hears; old = x; new = m .new; job = m .job }
-
-abbrev pub withNew : List ℕ → Machine → Machine
-withNew x m = record { clock = m .clock; low = m .low; sleep = m .sleep; power = m .power; regs = m .regs; luts = m .luts; hears = m .hears; old = m .old; new = x; job = m .job }
-
-abbrev pub withJob : Job → Machine → Machine
-withJob x m = record { clock = m .clock; low = m .low; sleep = m .sleep; power = m .power; regs = m .regs; luts = m .luts; hears = m .hears; old = m .old; new = m .new; job = x }
+use Rattle.controller.specs.Ask.{Ask, command, datum, reading, advance, reset, taking, askBusy, askDeadline, askBit, askRow}
+use Rattle.walk.specs.Kept.{Order, Hearing, none, ignored, under, Noted}
+use Rattle.walk.specs.Kept.{Task, powersUp, powersDown, fallsAsleep, resetsSoftly, resetsHardly, drives, Job, idle, until, Machine}
+use Rattle.walk.specs.Parts.{withClock, withLow, withSleep, withPower, withRegs, withLuts, withHears, withOld, withNew, withJob}
 
 -- ---- a refresh's end
 -- how a refresh ends at a call: not at all; by itself; cut by reset after some whole frames
@@ -154,12 +70,19 @@ done g powersDown m = quiet (withPower false m)
 done g fallsAsleep m = quiet (withSleep true (withPower false m))
 done g resetsSoftly m = quiet m
 done g resetsHardly m = quiet m
-done g (drives r) m = record { machine = pick (copiesNewToOld (g .variant) (m .regs)) (withOld (copied (m .old) (m .new) (r .area)) m) m; ended = whole r }
+done g (drives r) m = record {
+  machine = pick (copiesNewToOld (g .variant) (m .regs)) (withOld (copied (m .old) (m .new) (r .area)) m) m;
+  ended = whole r;
+}
 
--- an operation whose end is at or below the clock ends, once
+-- an end at or below the clock
+abbrev pub reached : ℕ → Machine → Bool
+reached e m = leb e (m .clock)
+
+-- an operation whose end is reached ends, once
 abbrev pub due : Uc8253Config → Job → Machine → Out
 due g idle m = quiet m
-due g (until e k) m = pick (leb e (m .clock)) (done g k (withJob idle m)) (quiet m)
+due g (until e k) m = pick (reached e m) (done g k (withJob idle m)) (quiet m)
 
 -- the clock becomes the larger of itself and the time given
 unfoldable pub settled : Uc8253Config → ℕ → Machine → Out
@@ -198,7 +121,7 @@ numberAt g m p = numberOf (pixelsOf (g .panel) (m .regs) (g .variant)) (m .old) 
 
 -- the tables, the levels of 01, and the period of the low five bits of 30
 abbrev pub waveNow : Uc8253Config → Machine → Waveform
-waveNow g m = waveformOf (map lutBytes (m .luts .luts)) (levelsOf (m .regs .power)) (getD (g .timing .«frame_period») (m .regs .pll % 32) 0)
+waveNow g m = waveformOf (m .luts .bytes) (levelsOf (m .regs .power)) (getD (g .timing .«frame_period») (m .regs .pll % 32) 0)
 
 -- what a refresh's start notes
 unfoldable pub noted : Uc8253Config → Machine → Noted
@@ -220,7 +143,16 @@ refresh g m = pick (able m) (begin (drives (noted g m)) (durationOf (waveNow g m
 abbrev pub windowed : Bool → Machine → Machine
 windowed x m =
     let r = m .regs in
-    withRegs (record { psr = r .psr; power = r .power; pll = r .pll; cdi = r .cdi; resolution = r .resolution; start = r .start; window = r .window; partial = x }) m
+    withRegs (record {
+      psr = r .psr;
+      power = r .power;
+      pll = r .pll;
+      cdi = r .cdi;
+      resolution = r .resolution;
+      start = r .start;
+      window = r .window;
+      partial = x;
+    }) m
 
 -- 04 acts with power off, 02 with power on; 12 is a refresh
 unfoldable pub acted : Uc8253Config → ℕ → Machine → Machine
@@ -234,7 +166,13 @@ acted g c m =
 
 -- no data byte yet; the cursor is at the first column and row of the written area
 abbrev pub begun : ℕ → Kind → Machine → Machine
-begun c k m = withHears (under (record { byte = c; kind = k; count = 0; cursor = record { x = writtenOf (m .regs) .x0; y = writtenOf (m .regs) .y0 } })) m
+begun c k m =
+    withHears (under (record {
+      byte = c;
+      kind = k;
+      count = 0;
+      cursor = record { x = writtenOf (m .regs) .x0; y = writtenOf (m .regs) .y0 };
+    })) m
 
 -- unknown: data is ignored; 15, 17, A0 and A1: it is only counted
 abbrev pub ordered : Kind → Uc8253Config → ℕ → Machine → Machine
@@ -256,7 +194,9 @@ forward a o = record { byte = o .byte; kind = o .kind; count = min (o .count + 1
 
 -- the first byte of 00 with bit 0 clear: registers reset, power off, soft reset; later bytes are ignored
 unfoldable pub softened : Uc8253Config → Machine → Machine
-softened g m = withHears ignored (begin resetsSoftly (g .timing .«soft_reset») (withPower false (withLuts resetLuts (withRegs (resetOf (g .variant)) m))))
+softened g m =
+    withHears ignored
+    (begin resetsSoftly (g .timing .«soft_reset») (withPower false (withLuts resetLuts (withRegs (resetOf (g .variant)) m))))
 
 -- 10 puts eight bits from the cursor into the old plane, 13 into the new one, and the cursor goes on; past the last row nothing
 unfoldable pub streamed : ℕ → Order → Machine → Machine
@@ -269,7 +209,9 @@ streamed b o m =
 
 -- a register or a table takes it, if it is theirs
 unfoldable pub stored : ℕ → Order → Machine → Machine
-stored b o m = withHears (under (counted o)) (withLuts (lutByteOf (o .byte) (o .count) b (m .luts)) (withRegs (byteOf (o .byte) (o .count) b (m .regs)) m))
+stored b o m =
+    withHears (under (counted o))
+    (withLuts (lutByteOf (o .byte) (o .count) b (m .luts)) (withRegs (byteOf (o .byte) (o .count) b (m .regs)) m))
 
 -- a data byte that the command takes; 07 with A5 starts deep sleep
 unfoldable pub took : Uc8253Config → ℕ → Order → Machine → Machine
