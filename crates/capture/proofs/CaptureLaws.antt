@@ -1,4 +1,5 @@
--- The order in which a capture is turned back, and what holds of one that is taken: exactly if it meets none of the refusals. 6,521 events fit, 6,522 do not.
+-- The order in which a capture is turned back, and what holds of one that is taken: exactly if it meets none of the refusals.
+-- 6,521 events fit, 6,522 do not.
 use mathlib.Core.Path.{_≡_, refl, sym, _∙_}
 use mathlib.Core.Bool.{Bool, true, false, _||_, not, true≢false}
 use mathlib.Core.List.{List}
@@ -24,11 +25,13 @@ module _ (file : List ℕ) where
   unfolding captureRefused
   event-second b e = simp (b, e)
 
-  pub config-third : broken file ≡ false → badEvent file ≡ false → (refusal (configIn file) ≡ 0 → ⊥) → captureRefused file ≡ refusal (configIn file)
+  pub config-third : broken file ≡ false → badEvent file ≡ false → (refusal (configIn file) ≡ 0 → ⊥)
+      → captureRefused file ≡ refusal (configIn file)
   unfolding captureRefused
   config-third b e r = simp (b, e, ne-eqb _ _ r)
 
-  pub pixels-last : broken file ≡ false → badEvent file ≡ false → refusal (configIn file) ≡ 0 → tooMany file ≡ true → captureRefused file ≡ 10
+  pub pixels-last : broken file ≡ false → badEvent file ≡ false → refusal (configIn file) ≡ 0 → tooMany file ≡ true
+      → captureRefused file ≡ 10
   unfolding captureRefused
   pixels-last b e r t = simp (b, e, eq-eqb _ _ r, t)
 
@@ -140,11 +143,14 @@ unfolding eventsEnd
 events-end file z = rw (eq-eqb _ _ z) (sym (taken file z .offset-is))
 
 -- and they can be read from that part alone
-pub event-in-front : (file : List ℕ) → captureRefused file ≡ 0 → (i : ℕ) → i < countOf file → (kindAt (take (eventsEnd file) file) i ≡ kindAt file i) × (valueAt (take (eventsEnd file) file) i ≡ valueAt file i)
+pub event-in-front : (file : List ℕ) → captureRefused file ≡ 0 → (i : ℕ) → i < countOf file
+    → (kindAt (take (eventsEnd file) file) i ≡ kindAt file i) × (valueAt (take (eventsEnd file) file) i ≡ valueAt file i)
 event-in-front file z i h =
     let t = taken file z in
-    let e = events-end file z in
-    (getD-take (eventsEnd file) file (10 * i + 8) 0 (omega (arith, t .offset-is, e)), getD-take (eventsEnd file) file (10 * i + 9) 0 (omega (arith, t .offset-is, e)))
+    let e = events-end file z in (
+      getD-take (eventsEnd file) file (10 * i + 8) 0 (omega (arith, t .offset-is, e)),
+      getD-take (eventsEnd file) file (10 * i + 9) 0 (omega (arith, t .offset-is, e)),
+    )
 
 -- 10 × count is exact: at 32 bits it would be 4 here
 pub count-exact : (file : List ℕ) → offsetOf file ≡ 4 → countOf file ≡ 429_496_730 → captureRefused file ≡ 8

@@ -34,5 +34,6 @@ listed-all file zero f = refl
 listed-all file (suc n) f = rw (listed-all file n (λ k h. f k (omega arith)), f n (omega arith))
 
 -- one event more
-pub listed-more : (file : List ℕ) (n : ℕ) → allListed file n ≡ true → listed (kindAt file n) (valueAt file n) ≡ true → allListed file (n + 1) ≡ true
+pub listed-more : (file : List ℕ) (n : ℕ) → allListed file n ≡ true → listed (kindAt file n) (valueAt file n) ≡ true
+    → allListed file (n + 1) ≡ true
 listed-more file n e f = rw (add-one n, e, f)

@@ -7,7 +7,8 @@ use native.Mathlib.Omega.{arith}
 use lib.ListN.{getD}
 use Rattle.capture.specs.Little.{little}
 
-pub little-more : (l : List ℕ) (at n k : ℕ) → 0 < k → k ≤ n → getD l (at + (k - 1)) 0 + 256 * little l (at + k) (n - k) ≡ little l (at + (k - 1)) (n - (k - 1))
+pub little-more : (l : List ℕ) (at n k : ℕ) → 0 < k → k ≤ n
+    → getD l (at + (k - 1)) 0 + 256 * little l (at + k) (n - k) ≡ little l (at + (k - 1)) (n - (k - 1))
 little-more l at n k h g =
     let more : n - (k - 1) ≡ suc (n - k) = omega arith in
     let next : at + k ≡ suc (at + (k - 1)) = omega arith in

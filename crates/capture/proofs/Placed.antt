@@ -30,4 +30,18 @@ module _ (xs ys : List ℕ) where
 
   pub config-behind : configOf (xs ++ ys) (length xs) ≡ configOf ys 0
   config-behind =
-      simp (first-behind, byte-behind 1, byte-behind 6, byte-behind 7, little-behind 2 2, little-behind 4 2, little-behind 8 8, little-behind 16 8, little-behind 24 8, little-behind 32 8, little-behind 40 8, little-behind 48 8, periods-behind 32)
+      simp (
+        first-behind,
+        byte-behind 1,
+        byte-behind 6,
+        byte-behind 7,
+        little-behind 2 2,
+        little-behind 4 2,
+        little-behind 8 8,
+        little-behind 16 8,
+        little-behind 24 8,
+        little-behind 32 8,
+        little-behind 40 8,
+        little-behind 48 8,
+        periods-behind 32,
+      )

@@ -34,9 +34,11 @@ abbrev times : ℕ → List ℕ → List ℕ
 times zero l = []
 times (suc n) l = l ++ times n l
 
--- document 01's example: UC8253, 8 by 1, flags 4, grey 0, ambient 0, swing 28,000,000 (1AB 3F00), power on 100, other times 0, periods 1,000
+-- document 01's example: UC8253, 8 by 1, flags 4, grey 0, ambient 0, swing 28,000,000 (1AB 3F00),
+-- power on 100, other times 0, periods 1,000
 abbrev example : List ℕ
-example = 0 ∷ 4 ∷ 8 ∷ 0 ∷ 1 ∷ 0 ∷ 0 ∷ 0 ∷ 0x00 ∷ 0x3f ∷ 0xab ∷ 0x01 ∷ 0 ∷ 0 ∷ 0 ∷ 0 ∷ (eight 100 ++ times 4 (eight 0) ++ times 32 (eight 1000))
+example =
+    0 ∷ 4 ∷ 8 ∷ 0 ∷ 1 ∷ 0 ∷ 0 ∷ 0 ∷ 0x00 ∷ 0x3f ∷ 0xab ∷ 0x01 ∷ 0 ∷ 0 ∷ 0 ∷ 0 ∷ (eight 100 ++ times 4 (eight 0) ++ times 32 (eight 1000))
 
 abbrev pub tail : ℕ → List ℕ
 tail n = example ++ four (10 * n) ++ four n
@@ -49,7 +51,14 @@ pub example-config : (n : ℕ) → configOf (tail n) 0 ≡ record {
   variant = Uc8253;
   panel = record { sources = 8; gates = 1; «rows_reversed» = false; «columns_reversed» = false };
   optics = record { «full_swing» = 28_000_000; «positive_drives_black» = true; «initial_gray» = 0 };
-  timing = record { «power_on» = 100; «power_off» = 0; «deep_sleep» = 0; «soft_reset» = 0; «hardware_reset» = 0; «frame_period» = replicate 32 1_000 };
+  timing = record {
+    «power_on» = 100;
+    «power_off» = 0;
+    «deep_sleep» = 0;
+    «soft_reset» = 0;
+    «hardware_reset» = 0;
+    «frame_period» = replicate 32 1_000;
+  };
   «ambient_celsius» = 0;
 }
 example-config n = refl
@@ -69,8 +78,10 @@ event-at (suc n) (suc i) ys h =
     let l = advances n ++ ys in
     let kind : 10 * suc i + 8 ≡ 10 + (10 * i + 8) = omega arith in
     let value : 10 * suc i + 9 ≡ 10 + (10 * i + 9) = omega arith in
-    let next = event-at n i ys (omega arith) in
-    (ap (λ (p : ℕ). getD (advance ++ l) p 0) kind ∙ getD-append-add advance l (10 * i + 8) 0 ∙ next .0, ap (λ (p : ℕ). getD (advance ++ l) p 0) value ∙ getD-append-add advance l (10 * i + 9) 0 ∙ next .1)
+    let next = event-at n i ys (omega arith) in (
+      ap (λ (p : ℕ). getD (advance ++ l) p 0) kind ∙ getD-append-add advance l (10 * i + 8) 0 ∙ next .0,
+      ap (λ (p : ℕ). getD (advance ++ l) p 0) value ∙ getD-append-add advance l (10 * i + 9) 0 ∙ next .1,
+    )
 
 module _ (n : ℕ) (h : n ≤ 6521) where
   offset-file : offsetOf (file n) ≡ 10 * n

@@ -1,7 +1,7 @@
 // What turns a capture back: 8, 9, 1 to 4, 10, in this order.
 ghost use mathlib.Core.Path.{_≡_};
 ghost use Prim.Native.Nat.{_<_};
-ghost use Rattle.config.specs.Refusal as refusal;
+ghost use Rattle.base.specs.RefusalNumbers.{refusalNumber};
 ghost use Rattle.capture.specs.Refused as spec;
 use crate::layout::COUNT_BACK;
 use crate::layout::OFFSET_BACK;
@@ -9,7 +9,7 @@ use crate::layout::config;
 use crate::layout::pixels;
 use crate::layout::word;
 use crate::words::byte;
-use config::Validity;
+use base::Refusal;
 
 // Bytes of an event, and where in it the kind and the value stand.
 const EVENT: u64 = 10;
@@ -111,47 +111,34 @@ fn bad_event(file: &[u8]) -> bool
     !all_listed(file, word(file, COUNT_BACK))
 }
 
-// The number of a configuration's refusal, 0 for none.
-fn number(v: Validity) -> u8
-    ensures { λ r. ⌜ r ≡ refusal.number v ⌝ }
-{
-    match v {
-        Validity::Valid => 0,
-        Validity::EmptyPanel => 1,
-        Validity::PanelTooLarge => 2,
-        Validity::FullSwing => 3,
-        Validity::FramePeriod => 4,
-    }
-}
-
-// The number of the first refusal that the file meets, 0 if it meets none.
-pub fn refused(file: &[u8]) -> u8
-    ensures { λ r. ⌜ r ≡ spec.captureRefused (now (file .entry)) ⌝ }
+// The first refusal that the file meets.
+pub fn refused(file: &[u8]) -> Refusal
+    ensures { λ r. ⌜ refusalNumber r ≡ spec.captureRefused (now (file .entry)) ⌝ }
 {
     if broken(file) {
-        return 8;
+        return Refusal::BrokenCapture;
     }
     if bad_event(file) {
-        return 9;
+        return Refusal::BadEvent;
     }
     let c = config(file);
     let v = c.validate();
-    let n = number(v);
-    if n != 0 {
-        return n;
+    if v.none() {
+        if MOST_PIXELS < pixels(c) {
+            return Refusal::TooManyPixels;
+        }
+        return Refusal::Nothing;
     }
-    if MOST_PIXELS < pixels(c) {
-        return 10;
-    }
-    0
+    v
 }
 
 // Where the events end: 10 × their count, 0 for a refused file; never past the file's end.
 pub fn events_end(file: &[u8]) -> usize
     ensures { λ r. ⌜ r ≡ spec.eventsEnd (now (file .entry)) ⌝ }
 {
-    if refused(file) != 0 {
-        return 0;
+    let r = refused(file);
+    if r.none() {
+        return (EVENT * word(file, COUNT_BACK)) as usize;
     }
-    (EVENT * word(file, COUNT_BACK)) as usize
+    0
 }

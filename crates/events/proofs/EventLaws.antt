@@ -11,12 +11,15 @@ use lib.ListN.{length, getD, drop}
 use lib.Seq.{getD-drop}
 use borrow.Author.Tests.{ne-eqb, le-leb, lt-leb}
 use Rattle.base.specs.Pick.{between}
+use Rattle.base.specs.declared.refusals.Refusal.{Refusal}
+use Rattle.base.specs.RefusalNumbers.{refusalNumber}
 use Rattle.base.proofs.Lists.{getD-past}
 use Rattle.base.proofs.Sorting.{Rest}
 use Rattle.controller.specs.declared.Uc8253.{Uc8253}
 use Rattle.controller.specs.World.{World, Buffers, world}
 use Rattle.controller.specs.TurnedBack.{turnedBack}
 use Rattle.controller.specs.Calls.{commandCall, dataCall, readCall, readAnswer, resetCall, advanceCall}
+use Rattle.controller.specs.Ask.{Answer, nothing, byte, count, low, due, bit, part}
 use Rattle.events.specs.declared.Event.{Event}
 use Rattle.events.specs.declared.steps.Stepped.{Stepped}
 use Rattle.capture.specs.Little.{little}
@@ -38,11 +41,13 @@ module _ (e : Event) (w v : World) (n : ℕ) where
   unfolding eventDone eventRefused eventAnswer asserts
   does-data k h r = record { done = rw k h; turned = rw k r; gives = rw k }
 
-  pub does-read : (b : ℕ) → e .kind ≡ 3 → v ≡ readCall (e .time) w → n ≡ turnedBack false (e .time) w → b ≡ readNumber (readAnswer (e .time) w) → Does e w v n b
+  pub does-read : (b : ℕ) → e .kind ≡ 3 → v ≡ readCall (e .time) w → n ≡ turnedBack false (e .time) w
+      → b ≡ readNumber (readAnswer (e .time) w) → Does e w v n b
   unfolding eventDone eventRefused eventAnswer asserts
   does-read b k h r a = record { done = rw k h; turned = rw k r; gives = rw k a }
 
-  pub does-reset : e .kind ≡ 4 → v ≡ resetCall (e .time) (eqb (e .value) 1) w → n ≡ turnedBack (eqb (e .value) 1) (e .time) w → Does e w v n 257
+  pub does-reset : e .kind ≡ 4 → v ≡ resetCall (e .time) (eqb (e .value) 1) w → n ≡ turnedBack (eqb (e .value) 1) (e .time) w
+      → Does e w v n 257
   unfolding eventDone eventRefused eventAnswer asserts
   does-reset k h r = record { done = rw k h; turned = rw k r; gives = rw k }
 
@@ -73,9 +78,23 @@ does-nothing e w r =
     }
 
 -- what a step hands back, by its three parts
-pub stepped : (e : Event) (w : World) {s : Stepped} {l : Buffers} (p : Uc8253) (n x : ℕ) → s ≡ record { chip = p; refused = n; answer = x } → Does e w (world p l) n x
-    → ((world (s .chip) l ≡ eventDone e w) × (s .refused ≡ eventRefused e w)) × (s .answer ≡ eventAnswer e w)
-stepped e w {s} {l} p n x q d = ((ap (λ (z : Stepped). world (z .chip) l) q ∙ d .done, ap (λ (z : Stepped). z .refused) q ∙ d .turned), ap (λ (z : Stepped). z .answer) q ∙ d .gives)
+pub stepped : (e : Event) (w : World) {s : Stepped} {l : Buffers} (p : Uc8253) (r : Refusal) (x : ℕ)
+    → s ≡ record { chip = p; refused = r; answer = x } → Does e w (world p l) (refusalNumber r) x
+    → ((world (s .chip) l ≡ eventDone e w) × (refusalNumber (s .refused) ≡ eventRefused e w)) × (s .answer ≡ eventAnswer e w)
+stepped e w {s} {l} p r x q d = (
+  (ap (λ (z : Stepped). world (z .chip) l) q ∙ d .done, ap (λ (z : Stepped). refusalNumber (z .refused)) q ∙ d .turned),
+  ap (λ (z : Stepped). z .answer) q ∙ d .gives,
+)
+
+-- the number of what a read gave, by the answer of the call
+abbrev pub numberIn : Answer → ℕ
+numberIn nothing = 0
+numberIn (byte b) = readNumber b
+numberIn (count n) = 0
+numberIn (low b) = 0
+numberIn (due d) = 0
+numberIn (bit f) = 0
+numberIn (part l) = 0
 
 -- ---- the bytes of an event
 pub event-past : (bytes : List ℕ) (i : ℕ) → length bytes / 10 < i → record { time = 0; kind = 0; value = 0 } ≡ eventAt bytes i
@@ -84,7 +103,8 @@ event-past bytes i h =
     let l : length bytes ≤ i * 10 = omega arith in
     rw (little-past bytes (i * 10) 8 l, getD-past bytes (i * 10 + 8) 0 (omega arith), getD-past bytes (i * 10 + 9) 0 (omega arith))
 
-pub event-read : (bytes : List ℕ) (i t k v : ℕ) → t ≡ little bytes (i * 10) 8 → k ≡ getD bytes (i * 10 + 8) 0 → v ≡ getD bytes (i * 10 + 9) 0
+pub event-read : (bytes : List ℕ) (i t k v : ℕ) → t ≡ little bytes (i * 10) 8 → k ≡ getD bytes (i * 10 + 8) 0
+    → v ≡ getD bytes (i * 10 + 9) 0
     → record { time = t; kind = k; value = v } ≡ eventAt bytes i
 unfolding eventAt
 event-read bytes i t k v a b c = λ j. record { time = a j; kind = b j; value = c j }

@@ -19,16 +19,19 @@ pub marked-length : (i k : ℕ) (answers : List ℕ) → length (marked i k answ
 marked-length i k answers = turns-keep (λ l. length l ≡ length answers) k (λ j l. set l (i + j) 257) answers (λ j l h e. length-set l (i + j) 257 ∙ e) refl
 
 -- ---- a stretch
-marked-answers : (bytes : List ℕ) (i k : ℕ) (w v : World) (answers : List ℕ) → Stretch bytes i k w v → marked i k answers ≡ answersOn bytes i k w answers
+marked-answers : (bytes : List ℕ) (i k : ℕ) (w v : World) (answers : List ℕ) → Stretch bytes i k w v
+    → marked i k answers ≡ answersOn bytes i k w answers
 unfolding answersOn
 marked-answers bytes i k w v answers s = turns-same k _ _ answers (λ j l h. ap (set l (i + j)) (sym (s .silent j h)))
 
-none-refused : (bytes : List ℕ) (i k : ℕ) (w : World) → ((j : ℕ) → j < k → eventRefused (eventAt bytes (i + j)) (ranOn bytes i j w) ≡ 0) → 0 ≡ refusedOn bytes i k w
+none-refused : (bytes : List ℕ) (i k : ℕ) (w : World) → ((j : ℕ) → j < k → eventRefused (eventAt bytes (i + j)) (ranOn bytes i j w) ≡ 0)
+    → 0 ≡ refusedOn bytes i k w
 unfolding refusedOn earlier
 none-refused bytes i zero w h = refl
 none-refused bytes i (suc k) w h = rw (sym (none-refused bytes i k w (λ j l. h j (omega arith)))) (sym (h k (omega arith)))
 
-pub goes-stretch : {bytes : List ℕ} {i k : ℕ} {w v : World} {answers more : List ℕ} → Stretch bytes i k w v → (k ≡ 0 → ⊥) → more ≡ marked i k answers → Goes bytes i k w v answers more 0
+pub goes-stretch : {bytes : List ℕ} {i k : ℕ} {w v : World} {answers more : List ℕ} → Stretch bytes i k w v → (k ≡ 0 → ⊥)
+    → more ≡ marked i k answers → Goes bytes i k w v answers more 0
 goes-stretch {bytes} {i} {k} {w} {v} {answers} s n e =
     record {
       some = omega (arith, n);
@@ -64,7 +67,8 @@ ran-on : (bytes : List ℕ) (i k : ℕ) (w : World) → ranOn bytes i k (ranTo b
 unfolding ranOn ranTo
 ran-on bytes i k w = turns-join i k (λ j v. eventDone (eventAt bytes j) v) w
 
-answers-on : (bytes : List ℕ) (i k : ℕ) (w : World) (answers : List ℕ) → answersOn bytes i k (ranTo bytes i w) (answersTo bytes i w answers) ≡ answersTo bytes (i + k) w answers
+answers-on : (bytes : List ℕ) (i k : ℕ) (w : World) (answers : List ℕ)
+    → answersOn bytes i k (ranTo bytes i w) (answersTo bytes i w answers) ≡ answersTo bytes (i + k) w answers
 unfolding answersOn answersTo
 answers-on bytes i k w answers =
     turns-same k _ _ _ (λ j l h. ap (λ (v : World). set l (i + j) (eventAnswer (eventAt bytes (i + j)) v)) (ran-on bytes i j w))
@@ -78,7 +82,8 @@ earlier-none : (a : ℕ) → earlier a 0 ≡ a
 unfolding earlier
 earlier-none a = by-cases (eqb a 0) (λ h. rw h (sym (eqb-true a 0 h))) (λ h. rw h)
 
-refused-on : (bytes : List ℕ) (i k : ℕ) (w : World) → earlier (refusedIn bytes i w) (refusedOn bytes i k (ranTo bytes i w)) ≡ refusedIn bytes (i + k) w
+refused-on : (bytes : List ℕ) (i k : ℕ) (w : World)
+    → earlier (refusedIn bytes i w) (refusedOn bytes i k (ranTo bytes i w)) ≡ refusedIn bytes (i + k) w
 unfolding refusedOn refusedIn
 refused-on bytes i zero w = earlier-none (refusedIn bytes i w) ∙ ap (λ (n : ℕ). refusedIn bytes n w) (sym (add-zero i))
 refused-on bytes i (suc k) w =

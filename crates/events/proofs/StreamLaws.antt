@@ -1,4 +1,5 @@
--- A run of pixel bytes does what its calls do, one by one: none is turned back, and each puts its eight pixels, moves the cursor, counts and moves the clock.
+-- A run of pixel bytes does what its calls do, one by one: none is turned back, and each puts its eight pixels,
+-- moves the cursor, counts and moves the clock.
 use mathlib.Core.Path.{_≡_, refl, sym, ap, subst, _∙_}
 use mathlib.Core.Bool.{Bool, true, false, _||_, _&&_, not, true≢false, false≢true}
 use mathlib.Core.List.{List}
@@ -30,8 +31,10 @@ use Rattle.controller.specs.declared.Work.the-variants as work
 use Rattle.controller.specs.declared.Uc8253.{Uc8253}
 use Rattle.controller.specs.declared.uses.Use.{Use}
 use Rattle.controller.specs.declared.uses.Use.the-variants as use-for
-use Rattle.controller.specs.World.{World, Buffers, world, withCurrent, withOld, withNew}
-use Rattle.controller.specs.TurnedBack.{badArea, badPair, badRegisters, badCurrent, badConfig, badStage, badWork, foreignRecord, lentFits, endsRefresh, turnedBack}
+use Rattle.controller.specs.World.{World, Buffers, world}
+use Rattle.controller.specs.Setters.{withCurrent, withOld, withNew}
+use Rattle.controller.specs.TurnedBack.{badArea, badPair, badRegisters, badCurrent, badConfig, badStage}
+use Rattle.controller.specs.TurnedBack.{badWork, foreignRecord, lentFits, endsRefresh, turnedBack}
 use Rattle.controller.specs.Arrives.{endedBy, ended, arrived}
 use Rattle.controller.specs.DataByte.{countedOf, doing, purposeOf, pixelChip, pastWindow, olderByte, newerByte, usedBy, dataByte, moreOf}
 use Rattle.controller.specs.Calls.{called}
@@ -41,7 +44,8 @@ use Rattle.events.specs.declared.streams.Change.{Change}
 use Rattle.events.specs.declared.streams.Flowed.{Flowed}
 use Rattle.events.specs.Events.{eventsIn, eventAt, eventDone, eventRefused, eventAnswer}
 use Rattle.events.proofs.EventLaws.{Does, does-data}
-use Rattle.events.specs.Stretch.{ranOn, Stretch, putAt, onFrom, cursorTo, countTo, clockTo, planeTo, flowsBy, AllFlow, Flows, flowedChip, FlowsInto, restsBy, calmWith, endlessBy, pixelsBy, Aimed}
+use Rattle.events.specs.Stretch.{ranOn, Stretch, putAt, onFrom, cursorTo, countTo, clockTo, planeTo, flowsBy, AllFlow}
+use Rattle.events.specs.Stretch.{Flows, flowedChip, FlowsInto, restsBy, calmWith, endlessBy, pixelsBy, Aimed}
 
 -- ---- tests that fail
 neither : (x y : Bool) → (x || y) ≡ false → (x ≡ false) × (y ≡ false)
@@ -126,17 +130,20 @@ module _ (p : Uc8253) (b : Buffers) (a : Active) where
   flowed-first false s = ap (λ (x : Current). world (withCurrent x p) b) (s .active)
 
   -- no data byte is turned back
-  fits-still : (older : Bool) (l : List ℕ) → length l ≡ length (planeOf older b) → lentFits (p .config) b ≡ true → lentFits (p .config) (withPlane older l b) ≡ true
+  fits-still : (older : Bool) (l : List ℕ) → length l ≡ length (planeOf older b) → lentFits (p .config) b ≡ true
+      → lentFits (p .config) (withPlane older l b) ≡ true
   fits-still true l e f = rw e f
   fits-still false l e f = rw e f
 
-  taken-at : (older : Bool) → Streams older p b a → (c : Cursor) (n t u : ℕ) (l : List ℕ) → Stands c → length l ≡ length (planeOf older b) → turnedBack false u (flowed older p b a c n t l) ≡ 0
+  taken-at : (older : Bool) → Streams older p b a → (c : Cursor) (n t u : ℕ) (l : List ℕ) → Stands c → length l ≡ length (planeOf older b)
+      → turnedBack false u (flowed older p b a c n t l) ≡ 0
   unfolding turnedBack foreignRecord endsRefresh
   taken-at older s c n t u l d e =
       rw (s .home .config, s .home .regs, good-cursor (record { command = a .command; kind = a .kind; received = n; read = a .read; cursor = c; «extra_reported» = a .«extra_reported»; «past_reported» = a .«past_reported» }) d, s .home .runs, s .home .stored, fits-still older l e (s .fits), s .resting)
 
   -- nothing ends as a byte arrives
-  arrived-at : (older : Bool) → Streams older p b a → (c : Cursor) (n t u : ℕ) (l : List ℕ) → arrived u (flowed older p b a c n t l) ≡ flowed older p b a c n (max t u) l
+  arrived-at : (older : Bool) → Streams older p b a → (c : Cursor) (n t u : ℕ) (l : List ℕ)
+      → arrived u (flowed older p b a c n t l) ≡ flowed older p b a c n (max t u) l
   unfolding arrived ended
   arrived-at older s c n t u l =
       let v : World = flowed older p b a c n (max t u) l in
@@ -164,18 +171,21 @@ module _ (p : Uc8253) (b : Buffers) (a : Active) where
   put-older c n t v l f = by-cases (ltb (area .y1) (c .y)) (λ h. rw (h, rw h at f)) (λ h. rw h)
 
   put-newer : (c : Cursor) (n t v : ℕ) (l : List ℕ) → pick (ltb (area .y1) (c .y)) (a .«past_reported») true ≡ true
-      → newerByte (moreOf (along c n)) v (flowed false p b a c n t l) ≡ flowed false p b a (onFrom area c) (countedOf n) t (putAt area c v l)
+      → newerByte (moreOf (along c n)) v (flowed false p b a c n t l)
+      ≡ flowed false p b a (onFrom area c) (countedOf n) t (putAt area c v l)
   unfolding newerByte pastWindow pixelChip putAt onFrom
   put-newer c n t v l f = by-cases (ltb (area .y1) (c .y)) (λ h. rw (h, rw h at f)) (λ h. rw h)
 
-  byte-at : (older : Bool) → Streams older p b a → (c : Cursor) (n t v : ℕ) (l : List ℕ) → pick (ltb (area .y1) (c .y)) (a .«past_reported») true ≡ true
+  byte-at : (older : Bool) → Streams older p b a → (c : Cursor) (n t v : ℕ) (l : List ℕ)
+      → pick (ltb (area .y1) (c .y)) (a .«past_reported») true ≡ true
       → dataByte v (flowed older p b a c n t l) ≡ flowed older p b a (onFrom area c) (countedOf n) t (putAt area c v l)
   unfolding dataByte
   byte-at true s c n t v l f = ap (λ (u : Use). usedBy u (along c n) v (flowed true p b a c n t l)) (used-for true s c n v) ∙ put-older c n t v l f
   byte-at false s c n t v l f = ap (λ (u : Use). usedBy u (along c n) v (flowed false p b a c n t l)) (used-for false s c n v) ∙ put-newer c n t v l f
 
   -- an event of the run
-  data-at : (older : Bool) → Streams older p b a → (e : Event) (c : Cursor) (n t : ℕ) (l : List ℕ) → Stands c → length l ≡ length (planeOf older b) → e .kind ≡ 2
+  data-at : (older : Bool) → Streams older p b a → (e : Event) (c : Cursor) (n t : ℕ) (l : List ℕ) → Stands c
+      → length l ≡ length (planeOf older b) → e .kind ≡ 2
       → Does e (flowed older p b a c n t l) (dataByte (e .value) (arrived (e .time) (flowed older p b a c n t l))) 0 257
   unfolding called
   data-at older s e c n t l d q k =
@@ -183,9 +193,11 @@ module _ (p : Uc8253) (b : Buffers) (a : Active) where
       let h : turnedBack false (e .time) w ≡ 0 = taken-at older s c n t (e .time) l d q in
       does-data e w _ 0 k (rw h) (sym h)
 
-  one-more : (older : Bool) → Streams older p b a → (e : Event) (c : Cursor) (n t : ℕ) (l : List ℕ) → Stands c → length l ≡ length (planeOf older b)
+  one-more : (older : Bool) → Streams older p b a → (e : Event) (c : Cursor) (n t : ℕ) (l : List ℕ) → Stands c
+      → length l ≡ length (planeOf older b)
       → flowsBy (e .kind) area c (a .«past_reported») ≡ true
-      → eventDone e (flowed older p b a c n t l) ≡ flowed older p b a (onFrom area c) (countedOf n) (max t (e .time)) (putAt area c (e .value) l)
+      → eventDone e (flowed older p b a c n t l)
+      ≡ flowed older p b a (onFrom area c) (countedOf n) (max t (e .time)) (putAt area c (e .value) l)
   unfolding flowsBy
   one-more older s e c n t l d q f =
       let g = each (eqb (e .kind) 2) _ f in
@@ -236,12 +248,14 @@ module _ (older : Bool) (p : Uc8253) (b : Buffers) (a : Active) (s : Streams old
       ∙ one-more p b a older s (eventAt bytes (i + k)) _ _ _ _ (stands-at k) (long-at k) (all k (omega arith))
 
   does-at : (k j : ℕ) → j < k → AllFlow bytes i k (writtenOf (p .regs)) (a .cursor) (a .«past_reported»)
-      → Does (eventAt bytes (i + j)) (reached j) (dataByte (eventAt bytes (i + j) .value) (arrived (eventAt bytes (i + j) .time) (reached j))) 0 257
+      → Does (eventAt bytes (i + j)) (reached j)
+      (dataByte (eventAt bytes (i + j) .value) (arrived (eventAt bytes (i + j) .time) (reached j))) 0 257
   unfolding flowsBy
   does-at k j h all =
       data-at p b a older s (eventAt bytes (i + j)) _ _ _ _ (stands-at j) (long-at j) (eqb-true (eventAt bytes (i + j) .kind) 2 (each (eqb (eventAt bytes (i + j) .kind) 2) _ (all j h) .0))
 
-  stretch : (k : ℕ) (v : World) → i + k ≤ eventsIn bytes → AllFlow bytes i k (writtenOf (p .regs)) (a .cursor) (a .«past_reported») → v ≡ reached k → Stretch bytes i k (world p b) v
+  stretch : (k : ℕ) (v : World) → i + k ≤ eventsIn bytes → AllFlow bytes i k (writtenOf (p .regs)) (a .cursor) (a .«past_reported»)
+      → v ≡ reached k → Stretch bytes i k (world p b) v
   stretch k v h all e =
       record {
         within = h;
@@ -271,7 +285,8 @@ pixels-are kind.Read e = absurd (false≢true e)
 pixels-are (kind.Unsupported n) e = absurd (false≢true e)
 pixels-are kind.Unknown e = absurd (false≢true e)
 
-streams : (older : Bool) (p : Uc8253) (b : Buffers) (a : Active) → calmWith p (lentFits (p .config) b) ≡ true → Aimed (p .stage .current) a (commandFor older) → Streams older p b a
+streams : (older : Bool) (p : Uc8253) (b : Buffers) (a : Active) → calmWith p (lentFits (p .config) b) ≡ true
+    → Aimed (p .stage .current) a (commandFor older) → Streams older p b a
 unfolding calmWith
 streams older p b a e m =
     let g = each (restsBy (p .operation .work)) _ e in
@@ -291,17 +306,20 @@ unfolding ranOn
 stretch-none bytes i w h = record { within = omega arith; is = refl; taken = λ j l. absurd (omega arith); silent = λ j l. absurd (omega arith) }
 
 pub stretch-older : (bytes : List ℕ) (i : ℕ) (p : Uc8253) (b : Buffers) (a : Active) (m : List ℕ) (f : Flowed)
-    → calmWith p (lentFits (p .config) b) ≡ true → Aimed (p .stage .current) a 0x10 → FlowsInto bytes i p a (b .old) m f → Stretch bytes i (f .done) (world p b) (world (f .chip) (withOld m b))
+    → calmWith p (lentFits (p .config) b) ≡ true → Aimed (p .stage .current) a 0x10 → FlowsInto bytes i p a (b .old) m f
+    → Stretch bytes i (f .done) (world p b) (world (f .chip) (withOld m b))
 stretch-older bytes i p b a m f e q r =
     stretch true p b a (streams true p b a e q) bytes i (f .done) _ (r .within) (r .all) (λ j. world (r .chip j) (withOld (r .plane j) b))
 
 pub stretch-newer : (bytes : List ℕ) (i : ℕ) (p : Uc8253) (b : Buffers) (a : Active) (m : List ℕ) (f : Flowed)
-    → calmWith p (lentFits (p .config) b) ≡ true → Aimed (p .stage .current) a 0x13 → FlowsInto bytes i p a (b .new) m f → Stretch bytes i (f .done) (world p b) (world (f .chip) (withNew m b))
+    → calmWith p (lentFits (p .config) b) ≡ true → Aimed (p .stage .current) a 0x13 → FlowsInto bytes i p a (b .new) m f
+    → Stretch bytes i (f .done) (world p b) (world (f .chip) (withNew m b))
 stretch-newer bytes i p b a m f e q r =
     stretch false p b a (streams false p b a e q) bytes i (f .done) _ (r .within) (r .all) (λ j. world (r .chip j) (withNew (r .plane j) b))
 
 -- ---- the loop over the bytes of a run
-more-flow : (bytes : List ℕ) (i k : ℕ) (r : Area) (c : Cursor) (reported : Bool) → AllFlow bytes i k r c reported → flowsBy (eventAt bytes (i + k) .kind) r (cursorTo r k c) reported ≡ true → AllFlow bytes i (suc k) r c reported
+more-flow : (bytes : List ℕ) (i k : ℕ) (r : Area) (c : Cursor) (reported : Bool) → AllFlow bytes i k r c reported
+    → flowsBy (eventAt bytes (i + k) .kind) r (cursorTo r k c) reported ≡ true → AllFlow bytes i (suc k) r c reported
 more-flow bytes i k r c reported all last j h = elim (decLe k j) [
   | yes g ↦ subst (λ (x : ℕ). flowsBy (eventAt bytes (i + x) .kind) r (cursorTo r x c) reported ≡ true) (same-place k j g h) last
   | no g ↦ all j (omega (arith, g))
@@ -311,11 +329,13 @@ more-flow bytes i k r c reported all last j h = elim (decLe k j) [
     same-place k j g h = omega arith
 
 module _ {bytes : List ℕ} {i : ℕ} {r : Area} {reported : Bool} {c : Cursor} {n t : ℕ} {l : List ℕ} where
-  pub flow-first : i ≤ eventsIn bytes → (k : ℕ) → k ≡ 0 → Flows bytes i r reported c n t l l (record { cursor = c; received = n; now = t; done = k })
+  pub flow-first : i ≤ eventsIn bytes → (k : ℕ) → k ≡ 0
+      → Flows bytes i r reported c n t l l (record { cursor = c; received = n; now = t; done = k })
   flow-first h k z =
       rw z (record { within = omega arith; all = λ j m. absurd (omega arith); stands = refl; count = refl; clock = refl; plane = refl })
 
-  pub flow-more : {m m' : List ℕ} {d d' : Cursor} {o o' u u' k : ℕ} {e : Event} → Flows bytes i r reported c n t l m (record { cursor = d; received = o; now = u; done = k })
+  pub flow-more : {m m' : List ℕ} {d d' : Cursor} {o o' u u' k : ℕ} {e : Event}
+      → Flows bytes i r reported c n t l m (record { cursor = d; received = o; now = u; done = k })
       → e ≡ eventAt bytes (i + k) → flowsBy (e .kind) r d reported ≡ true → i + k < eventsIn bytes
       → m' ≡ putAt r d (e .value) m → d' ≡ onFrom r d → o' ≡ countedOf o → u' ≡ max u (e .time) → (k' : ℕ) → k' ≡ suc k
       → Flows bytes i r reported c n t l m' (record { cursor = d'; received = o'; now = u'; done = k' })

@@ -1,4 +1,5 @@
--- How the code goes: some events at once, from event i on; and a run of pixel bytes by what it changes, which is a plane, the cursor, the count and the clock.
+-- How the code goes: some events at once, from event i on; and a run of pixel bytes by what it changes,
+-- which is a plane, the cursor, the count and the clock.
 use mathlib.Core.Path.{_≡_}
 use mathlib.Core.Bool.{Bool, true, false, _&&_, not}
 use mathlib.Core.List.{List}
@@ -21,7 +22,8 @@ use Rattle.controller.specs.declared.Current.the-variants as current
 use Rattle.controller.specs.declared.Work.{Work}
 use Rattle.controller.specs.declared.Work.the-variants as work
 use Rattle.controller.specs.declared.Uc8253.{Uc8253}
-use Rattle.controller.specs.World.{World, withCurrent, withNow}
+use Rattle.controller.specs.World.{World}
+use Rattle.controller.specs.Setters.{withCurrent, withNow}
 use Rattle.controller.specs.TurnedBack.{foreignRecord}
 use Rattle.controller.specs.DataByte.{countedOf}
 use Rattle.events.specs.declared.streams.Change.{Change}
@@ -91,12 +93,22 @@ pub record Flows (bytes : List ℕ) (i : ℕ) (a : Area) (reported : Bool) (c : 
 abbrev pub flowedChip : Uc8253 → Active → Cursor → ℕ → ℕ → Uc8253
 flowedChip p a c n t =
     withNow t
-    (withCurrent (current.Active (record { command = a .command; kind = a .kind; received = n; read = a .read; cursor = c; «extra_reported» = a .«extra_reported»; «past_reported» = a .«past_reported» })) p)
+    (withCurrent (current.Active (record {
+      command = a .command;
+      kind = a .kind;
+      received = n;
+      read = a .read;
+      cursor = c;
+      «extra_reported» = a .«extra_reported»;
+      «past_reported» = a .«past_reported»;
+    })) p)
 
 pub record FlowsInto (bytes : List ℕ) (i : ℕ) (p : Uc8253) (a : Active) (l m : List ℕ) (f : Flowed) : Type 0 where
   pub within : i + f .done ≤ eventsIn bytes
   pub all : AllFlow bytes i (f .done) (writtenOf (p .regs)) (a .cursor) (a .«past_reported»)
-  pub chip : f .chip ≡ flowedChip p a (cursorTo (writtenOf (p .regs)) (f .done) (a .cursor)) (countTo (f .done) (a .received)) (clockTo bytes i (f .done) (p .now))
+  pub chip :
+      f .chip ≡ flowedChip p a
+      (cursorTo (writtenOf (p .regs)) (f .done) (a .cursor)) (countTo (f .done) (a .received)) (clockTo bytes i (f .done) (p .now))
   pub plane : m ≡ planeTo bytes i (f .done) (writtenOf (p .regs)) (a .cursor) l
 
 -- nothing runs

@@ -18,12 +18,14 @@ pub use steps::Stepped;
 pub use steps::read_number;
 pub use steps::step;
 ghost use mathlib.Core.Path.{_≡_};
+ghost use Rattle.base.specs.RefusalNumbers.{refusalNumber};
 ghost use Rattle.controller.specs.World.{world};
-ghost use Rattle.controller.specs.Lent.{before, after, Gives, Called};
+ghost use Rattle.controller.specs.Lent.{before, after, Gives, Done};
 ghost use Prim.Native.Nat.{_+_, _*_, _^_, _<_};
 ghost use lib.ListN.{set};
 ghost use Rattle.events.specs.Events as rule;
 ghost use Rattle.events.specs.Stretch as stretch;
+use base::Refusal;
 use bytes::byte_at;
 use capture::little;
 use controller::Uc8253;
@@ -39,10 +41,10 @@ pub struct Event {
     pub value: u8,
 }
 
-// The record after a run, and the number of its first refusal, 0 where no event was turned back.
+// The record after a run, and the first refusal of an event, if there was one.
 pub struct Ran {
     pub chip: Uc8253,
-    pub refused: u8,
+    pub refused: Refusal,
 }
 
 // Two numbers as the low and the high half of one.
@@ -117,11 +119,14 @@ fn put(answers: &mut [u16], i: usize, x: u16)
     }
 }
 
-// The earlier of two refusals, 0 standing for none.
-fn earlier(before: u8, next: u8) -> u8
-    ensures { λ r. ⌜ r ≡ rule.earlier before next ⌝ }
+// The earlier of two refusals.
+fn earlier(first: Refusal, next: Refusal) -> Refusal
+    ensures { λ r. ⌜ refusalNumber r ≡ rule.earlier (refusalNumber first) (refusalNumber next) ⌝ }
 {
-    if before == 0 { next } else { before }
+    if first.none() {
+        return next;
+    }
+    first
 }
 
 // So many answers from a place on become that of an event that reads nothing.
@@ -136,10 +141,10 @@ fn mark(answers: &mut [u16], from: usize, count: usize)
     }
 }
 
-// The record after some events, the number of their first refusal, and how many there were.
+// The record after some events, their first refusal, and how many there were.
 struct Went {
     chip: Uc8253,
-    refused: u8,
+    refused: Refusal,
     done: usize,
 }
 
@@ -158,7 +163,8 @@ fn next_events(
 ) -> Went
     requires { ⌜ from < rule.eventsIn (now events) ⌝ }
     ensures { λ r. ⌜ stretch.Goes (now (events .entry)) from (r .done) (world p (before old new states numbers picture rows))
-        (world (r .chip) (after old new states numbers picture rows)) (now (answers .entry)) (now (answers .exit)) (r .refused) ⌝ }
+        (world (r .chip) (after old new states numbers picture rows)) (now (answers .entry)) (now (answers .exit))
+        (refusalNumber (r .refused)) ⌝ }
 {
     let f = stream(p, events, from, old, new, states, numbers, picture, rows);
     let chip = f.chip;
@@ -166,7 +172,7 @@ fn next_events(
         mark(answers, from, f.done);
         return Went {
             chip,
-            refused: 0,
+            refused: Refusal::Nothing,
             done: f.done,
         };
     }
@@ -174,9 +180,10 @@ fn next_events(
     let s = step(chip, event, old, new, states, numbers, picture, rows);
     put(answers, from, s.answer);
     let after = s.chip;
+    let refused = s.refused;
     Went {
         chip: after,
-        refused: s.refused,
+        refused,
         done: 1,
     }
 }
@@ -193,14 +200,14 @@ pub fn run(
     picture: &mut [u8],
     rows: &mut [u64],
 ) -> Ran
-    ensures { λ r. ⌜ Called (rule.ran (now (events .entry))) (rule.refused (now (events .entry))) p (r .chip) (r .refused)
+    ensures { λ r. ⌜ Done (rule.ran (now (events .entry))) (rule.refused (now (events .entry))) p (r .chip) (r .refused)
         old new states numbers picture rows ⌝ }
     ensures { λ r. ⌜ Gives (rule.answers (now (events .entry)) (now (answers .entry))) p (now (answers .exit))
         old new states numbers picture rows ⌝ }
 {
     let count = events.len() / EVENT_BYTES;
     let mut chip = p;
-    let mut refused: u8 = 0;
+    let mut refused = Refusal::Nothing;
     let mut i: usize = 0;
     while i < count {
         let s = next_events(
@@ -216,7 +223,8 @@ pub fn run(
             rows,
         );
         chip = s.chip;
-        refused = earlier(refused, s.refused);
+        let turned = s.refused;
+        refused = earlier(refused, turned);
         i += s.done;
     }
     Ran { chip, refused }

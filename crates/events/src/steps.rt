@@ -1,8 +1,9 @@
-// One event: the call that its kind stands for, with the refusal's number and what a read gave.
+// One event: the call that its kind stands for, with its refusal and what a read gave.
 ghost use mathlib.Core.Path.{_≡_};
-ghost use Rattle.controller.specs.Lent.{Gives, Called};
+ghost use Rattle.controller.specs.Lent.{Gives, Done};
 ghost use Rattle.events.specs.Events as rule;
 use crate::Event;
+use base::Refusal;
 use controller::Read;
 use controller::Uc8253;
 use uc8253::Answer;
@@ -29,10 +30,10 @@ pub const NOTHING: u16 = 256;
 
 pub const NO_READ: u16 = 257;
 
-// The record after an event, the number of the refusal, and what a read gave.
+// The record after an event, what turned it back, if anything did, and what a read gave.
 pub struct Stepped {
     pub chip: Uc8253,
-    pub refused: u8,
+    pub refused: Refusal,
     pub answer: u16,
 }
 
@@ -41,9 +42,10 @@ fn no_read(a: Answer) -> Stepped
     ensures { λ r. ⌜ r ≡ record { chip = a .chip; refused = a .refused; answer = 257 } ⌝ }
 {
     let chip = a.chip;
+    let refused = a.refused;
     Stepped {
         chip,
-        refused: a.refused,
+        refused,
         answer: NO_READ,
     }
 }
@@ -64,10 +66,11 @@ fn with_byte(a: ReadAnswer) -> Stepped
 {
     let chip = a.chip;
     let byte = a.byte;
+    let refused = a.refused;
     let answer = read_number(byte);
     Stepped {
         chip,
-        refused: a.refused,
+        refused,
         answer,
     }
 }
@@ -83,7 +86,7 @@ pub fn step(
     picture: &mut [u8],
     rows: &mut [u64],
 ) -> Stepped
-    ensures { λ r. ⌜ Called (rule.eventDone event) (rule.eventRefused event) p (r .chip) (r .refused)
+    ensures { λ r. ⌜ Done (rule.eventDone event) (rule.eventRefused event) p (r .chip) (r .refused)
         old new states numbers picture rows ⌝ }
     ensures { λ r. ⌜ Gives (rule.eventAnswer event) p (r .answer) old new states numbers picture rows ⌝ }
 {
@@ -98,7 +101,7 @@ pub fn step(
         ADVANCE => no_read(advance(p, at, old, new, states, numbers, picture, rows)),
         _ => Stepped {
             chip: p,
-            refused: 0,
+            refused: Refusal::Nothing,
             answer: NO_READ,
         },
     }

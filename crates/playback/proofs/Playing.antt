@@ -1,5 +1,5 @@
 -- The two ways of a capture: refused, with zeros and nothing changed; or made and run, and then no event is turned back.
-use mathlib.Core.Path.{_≡_, refl, sym, ap, _∙_}
+use mathlib.Core.Path.{_≡_, refl, ap, _∙_}
 use mathlib.Core.Bool.{Bool, true, false}
 use mathlib.Core.List.{List}
 use Prim.Native.Nat.{ℕ, _+_, _<_}
@@ -7,7 +7,7 @@ use lib.Dec.{eqb}
 use lib.ListN.{take, length-take}
 use lib.Seq.{getD-take}
 use native.Mathlib.Omega.{arith}
-use borrow.Author.Tests.{eq-eqb, ne-eqb, eqb-false}
+use borrow.Author.Tests.{eqb-false}
 use Rattle.config.specs.declared.Uc8253Config.{Uc8253Config}
 use Rattle.capture.specs.Layout.{offsetOf, configIn}
 use Rattle.capture.specs.Refused.{captureRefused, eventsEnd}
@@ -20,60 +20,54 @@ use Rattle.events.proofs.RunLaws.{Bytes, byte-anywhere, run-taken}
 use Rattle.playback.specs.Played.{eventsOf, makingOf, playRefused, playedTaken, answersTaken, played, answersPlayed}
 
 -- ---- the making of a file that passes its own tests
-module _ (file : List ℕ) (b : Buffers) (c : Uc8253Config) (n : ℕ) (e : c ≡ configIn file) (r : n ≡ makingRefused c b) where
-  same-number : n ≡ makingOf file b
-  same-number = r ∙ ap (λ (g : Uc8253Config). makingRefused g b) e
+module _ (file : List ℕ) (b : Buffers) (c : Uc8253Config) (e : c ≡ configIn file) where
+  pub same-number : makingRefused c b ≡ makingOf file b
+  same-number = ap (λ (g : Uc8253Config). makingRefused g b) e
 
-  pub making-no : (n ≡ 0 → ⊥) → (v : World) → v ≡ made c b → v ≡ playedTaken file b
+  pub making-no : eqb (makingOf file b) 0 ≡ false → (v : World) → v ≡ made c b → v ≡ playedTaken file b
   unfolding playedTaken made
-  making-no h v q = q ∙ rw (← r) (rw (ne-eqb n 0 h) (rw (← same-number) (rw (ne-eqb n 0 h))))
+  making-no h v q = q ∙ rw (same-number, h)
 
-  pub answers-no : (n ≡ 0 → ⊥) → (l : List ℕ) → l ≡ answersTaken file b l
+  pub answers-no : eqb (makingOf file b) 0 ≡ false → (l : List ℕ) → l ≡ answersTaken file b l
   unfolding answersTaken
-  answers-no h l = rw (← same-number) (rw (ne-eqb n 0 h))
+  answers-no h l = rw h
 
-  pub number-is : n ≡ makingOf file b
-  number-is = same-number
-
-  module _ (z : n ≡ 0) (w : World) (q : w ≡ made c b) (bytes : List ℕ) (t : bytes ≡ eventsOf file) where
+  module _ (h : eqb (makingOf file b) 0 ≡ true) (w : World) (q : w ≡ made c b) (bytes : List ℕ) (t : bytes ≡ eventsOf file) where
     pub making-yes : (v : World) → v ≡ ranTo bytes (eventsIn bytes) w → v ≡ playedTaken file b
     unfolding playedTaken
-    making-yes v h =
-        h ∙ (λ i. ranTo (t i) (eventsIn (t i)) ((q ∙ ap (λ (g : Uc8253Config). made g b) e) i)) ∙ rw (← same-number) (rw (eq-eqb n 0 z))
+    making-yes v r = r ∙ (λ i. ranTo (t i) (eventsIn (t i)) ((q ∙ ap (λ (g : Uc8253Config). made g b) e) i)) ∙ rw h
 
     pub answers-yes : (l l′ : List ℕ) → l′ ≡ answersTo bytes (eventsIn bytes) w l → l′ ≡ answersTaken file b l
     unfolding answersTaken
-    answers-yes l l′ h =
-        h ∙ (λ i. answersTo (t i) (eventsIn (t i)) ((q ∙ ap (λ (g : Uc8253Config). made g b) e) i) l) ∙ rw (← same-number) (rw (eq-eqb n 0 z))
-
-    pub number-yes : 0 ≡ makingOf file b
-    number-yes = sym z ∙ same-number
+    answers-yes l l′ r = r ∙ (λ i. answersTo (t i) (eventsIn (t i)) ((q ∙ ap (λ (g : Uc8253Config). made g b) e) i) l) ∙ rw h
 
 -- ---- the whole
-module _ (file : List ℕ) (b : Buffers) (n : ℕ) (e : n ≡ captureRefused file) where
-  pub play-no : (n ≡ 0 → ⊥) → (v : World) → v ≡ world zeros b → v ≡ played file b
-  unfolding played
-  play-no h v q = q ∙ rw (← e) (rw (ne-eqb n 0 h))
+module _ (file : List ℕ) (b : Buffers) where
+  module _ (h : eqb (captureRefused file) 0 ≡ false) where
+    pub play-no : (v : World) → v ≡ world zeros b → v ≡ played file b
+    unfolding played
+    play-no v q = q ∙ rw h
 
-  pub play-no-answers : (n ≡ 0 → ⊥) → (l : List ℕ) → l ≡ answersPlayed file b l
-  unfolding answersPlayed
-  play-no-answers h l = rw (← e) (rw (ne-eqb n 0 h))
+    pub play-no-answers : (l : List ℕ) → l ≡ answersPlayed file b l
+    unfolding answersPlayed
+    play-no-answers l = rw h
 
-  pub play-no-number : (n ≡ 0 → ⊥) → (m : ℕ) → m ≡ n → m ≡ playRefused file b
-  unfolding playRefused
-  play-no-number h m q = q ∙ rw (← e) (rw (ne-eqb n 0 h))
+    pub play-no-number : captureRefused file ≡ playRefused file b
+    unfolding playRefused
+    play-no-number = rw h
 
-  pub play-yes : n ≡ 0 → (v : World) → v ≡ playedTaken file b → v ≡ played file b
-  unfolding played
-  play-yes z v q = q ∙ rw (← e) (rw (eq-eqb n 0 z))
+  module _ (h : eqb (captureRefused file) 0 ≡ true) where
+    pub play-yes : (v : World) → v ≡ playedTaken file b → v ≡ played file b
+    unfolding played
+    play-yes v q = q ∙ rw h
 
-  pub play-yes-answers : n ≡ 0 → (l l′ : List ℕ) → l′ ≡ answersTaken file b l → l′ ≡ answersPlayed file b l
-  unfolding answersPlayed
-  play-yes-answers z l l′ q = q ∙ rw (← e) (rw (eq-eqb n 0 z))
+    pub play-yes-answers : (l l′ : List ℕ) → l′ ≡ answersTaken file b l → l′ ≡ answersPlayed file b l
+    unfolding answersPlayed
+    play-yes-answers l l′ q = q ∙ rw h
 
-  pub play-yes-number : n ≡ 0 → (m : ℕ) → m ≡ makingOf file b → m ≡ playRefused file b
-  unfolding playRefused
-  play-yes-number z m q = q ∙ rw (← e) (rw (eq-eqb n 0 z))
+    pub play-yes-number : (m : ℕ) → m ≡ makingOf file b → m ≡ playRefused file b
+    unfolding playRefused
+    play-yes-number m q = q ∙ rw h
 
 -- ---- every event of a capture that is played is accepted
 making-taken : (file : List ℕ) (b : Buffers) → playRefused file b ≡ 0 → makingRefused (configIn file) b ≡ 0

@@ -24,10 +24,12 @@ abbrev pub makingOf : List ℕ → Buffers → ℕ
 makingOf file b = makingRefused (configIn file) b
 
 unfoldable pub playedTaken : List ℕ → Buffers → World
-playedTaken file b = pick (eqb (makingOf file b) 0) (ranTo (eventsOf file) (eventsIn (eventsOf file)) (made (configIn file) b)) (world zeros b)
+playedTaken file b =
+    pick (eqb (makingOf file b) 0) (ranTo (eventsOf file) (eventsIn (eventsOf file)) (made (configIn file) b)) (world zeros b)
 
 unfoldable pub answersTaken : List ℕ → Buffers → List ℕ → List ℕ
-answersTaken file b answers = pick (eqb (makingOf file b) 0) (answersTo (eventsOf file) (eventsIn (eventsOf file)) (made (configIn file) b) answers) answers
+answersTaken file b answers =
+    pick (eqb (makingOf file b) 0) (answersTo (eventsOf file) (eventsIn (eventsOf file)) (made (configIn file) b) answers) answers
 
 -- the record and what is lent after the last event; a refusal returns a record of zeros and changes no lent entry
 unfoldable pub played : List ℕ → Buffers → World

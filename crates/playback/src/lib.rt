@@ -3,6 +3,7 @@
 ghost use mathlib.Core.Path.{_≡_};
 ghost use Rattle.controller.specs.Lent.{before, Makes};
 ghost use Rattle.playback.specs.Played as rule;
+use base::Refusal;
 use capture::config;
 use capture::events_end;
 use controller::Uc8253;
@@ -10,10 +11,10 @@ use events::run;
 use uc8253::power_on;
 use uc8253::zeros;
 
-// The record after the last event, and the number of the refusal, 0 where the capture was played.
+// The record after the last event, and what turned the capture back, if anything did.
 pub struct Played {
     pub chip: Uc8253,
-    pub refused: u8,
+    pub refused: Refusal,
 }
 
 // A capture that is not refused: the making, and then the events.
@@ -34,29 +35,27 @@ fn play_taken(
 {
     let made = power_on(config(file), old, new, states, numbers, picture, rows);
     let chip = made.chip;
-    if made.refused != 0 {
-        return Played {
+    let refused = made.refused;
+    if refused.none() {
+        let end = events_end(file);
+        let ran = run(
             chip,
-            refused: made.refused,
+            &file[..end],
+            answers,
+            old,
+            new,
+            states,
+            numbers,
+            picture,
+            rows,
+        );
+        let last = ran.chip;
+        return Played {
+            chip: last,
+            refused,
         };
     }
-    let end = events_end(file);
-    let ran = run(
-        chip,
-        &file[..end],
-        answers,
-        old,
-        new,
-        states,
-        numbers,
-        picture,
-        rows,
-    );
-    let last = ran.chip;
-    Played {
-        chip: last,
-        refused: 0,
-    }
+    Played { chip, refused }
 }
 
 // The capture's tests 8, 9, 1 to 4 and 10, then 5 for what is lent; the making; its events.
@@ -76,9 +75,9 @@ pub fn play(
         ≡ rule.answersPlayed (now (file .entry)) (before old new states numbers picture rows) (now (answers .entry)) ⌝ }
 {
     let refused = capture::refused(file);
-    if refused != 0 {
-        let chip = zeros();
-        return Played { chip, refused };
+    if refused.none() {
+        return play_taken(file, answers, old, new, states, numbers, picture, rows);
     }
-    play_taken(file, answers, old, new, states, numbers, picture, rows)
+    let chip = zeros();
+    Played { chip, refused }
 }

@@ -1,16 +1,20 @@
 -- `events::earlier` meets its contract: one test.
-use borrow.Author.Tests.{eq-eqb, ne-eqb}
 use Rattle.events.specs.Events as rule
+use mathlib.Core.Path.{sym, _∙_}
+use borrow.Author.Needs.{needs}
 use Rattle.events.proofs.earlier.Statement.{statement}
 use Rattle.events.proofs.earlier.Tie as tie
 
+none-requires : tie.Need-none-requires
+none-requires c κs = search needs
+
 returns : tie.Need-returns
 unfolding rule.earlier
-returns c = simp (eq-eqb _ _ (c .if1 .taken))
+returns c = simp (sym (c .before .none .ensures) ∙ c .if1 .taken)
 
 returns-2 : tie.Need-returns-2
 unfolding rule.earlier
-returns-2 c = simp (ne-eqb _ _ (c .if1 .left))
+returns-2 c = simp (sym (c .before .none .ensures) ∙ c .if1 .left)
 
 pub earlier-spec : {M : Type 1} → statement M
-earlier-spec = tie.close (tie.spec returns returns-2)
+earlier-spec = tie.close (tie.spec none-requires returns returns-2)

@@ -1,7 +1,7 @@
 -- `events::next_events` meets its contract: the run of pixel bytes, or the step of one event.
-use mathlib.Core.Path.{_∙_}
-use Rattle.events.proofs.SomeLaws.{goes-stretch, goes-one}
 use native.Mathlib.Omega.{arith}
+use Rattle.events.proofs.SomeLaws.{goes-stretch, goes-one}
+use mathlib.Core.Path.{_∙_}
 use borrow.Author.Needs.{needs}
 use Rattle.events.proofs.next_events.Statement.{statement}
 use Rattle.events.proofs.next_events.Tie as tie

@@ -1,23 +1,24 @@
 -- `events::run` meets its contract. The invariant: after i events the world, the answers and the refusal are what the definition has after i. The measure is the events left.
-use Rattle.events.proofs.SomeLaws.{going-on}
-use Rattle.events.proofs.Going.{Going, SameLengths, going-first, lengths-first, lengths-more}
-use Rattle.events.proofs.RunLaws.{answers-length}
-use Rattle.events.specs.Events.{eventsIn, ranTo, answersTo, refusedIn}
-use Rattle.controller.specs.World.{world, buffers}
-use lib.ListN.{length}
-use native.Mathlib.Omega.{arith}
-use borrow.Author.Needs.{needs}
-use Prim.Native.Nat.{ℕ, _-_, _≤_}
-use mathlib.Core.List.{List}
 use mathlib.Core.Path.{_≡_, ap, _∙_}
+use mathlib.Core.List.{List}
+use Prim.Native.Nat.{ℕ, _-_, _≤_}
+use borrow.Author.Needs.{needs}
+use native.Mathlib.Omega.{arith}
+use lib.ListN.{length}
+use Rattle.controller.specs.World.{world, buffers}
+use Rattle.base.specs.RefusalNumbers.{refusalNumber}
+use Rattle.events.specs.Events.{eventsIn, ranTo, answersTo, refusedIn}
+use Rattle.events.proofs.RunLaws.{answers-length}
+use Rattle.events.proofs.Going.{Going, SameLengths, going-first, lengths-first, lengths-more}
+use Rattle.events.proofs.SomeLaws.{going-on}
 use Rattle.events.proofs.run.Statement.{statement}
 use Rattle.events.proofs.run.Tie as tie
 
 abbrev Inv-loop : tie.InvT-loop
 Inv-loop events answers₀ old₀ new₀ states₀ numbers₀ picture₀ rows₀ count chip₀ refused₀ i₀ answers old new states numbers picture rows chip refused i =
-    Going events i (world chip₀ (buffers old₀ new₀ states₀ numbers₀ picture₀ rows₀)) (world chip (buffers old new states numbers picture rows)) answers₀ answers refused
-    × SameLengths (buffers old₀ new₀ states₀ numbers₀ picture₀ rows₀) (buffers old new states numbers picture rows)
-    × (i ≤ count)
+    let w = world chip₀ (buffers old₀ new₀ states₀ numbers₀ picture₀ rows₀) in
+    let v = world chip (buffers old new states numbers picture rows) in
+    Going events i w v answers₀ answers (refusalNumber refused) × SameLengths (w .lent) (v .lent) × (i ≤ count)
 
 abbrev μ-loop : tie.MeasureT-loop
 μ-loop events answers₀ old₀ new₀ states₀ numbers₀ picture₀ rows₀ count chip₀ refused₀ i₀ answers old new states numbers picture rows chip refused i =

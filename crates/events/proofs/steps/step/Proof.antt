@@ -1,8 +1,8 @@
 -- `events::steps::step` meets its contract: each arm's call is what the definition has for its kind.
 use mathlib.Core.Path.{refl, ap}
+use Rattle.base.specs.declared.refusals.Refusal.the-variants as refusal
 use Rattle.controller.specs.World.{world, buffers}
-use Rattle.events.specs.Events.{readNumber}
-use Rattle.events.proofs.EventLaws.{does-command, does-data, does-read, does-reset, does-advance, does-nothing, stepped}
+use Rattle.events.proofs.EventLaws.{does-command, does-data, does-read, does-reset, does-advance, does-nothing, stepped, numberIn}
 use borrow.Author.Needs.{needs}
 use Rattle.events.proofs.steps.step.Statement.{statement}
 use Rattle.events.proofs.steps.step.Tie as tie
@@ -98,7 +98,7 @@ same-length-18 : tie.Need-same-length-18
 same-length-18 c = search needs
 
 returns-3 : tie.Need-returns-3
-returns-3 c = let a = c .before .before .before .before .before .before .before .before .before .before .before .before .before .before .before .before .before .before .before .before .before .before .before .before .before .args in let w = world (a .p) (buffers (a .old .now) (a .new .now) (a .states .now) (a .numbers .now) (a .picture .now) (a .rows .now)) in let g = c .before .before .before .before .before .before .before .before .before .before .before .before .read-data in stepped (a .event) w _ _ _ (c .with-byte .ensures) (does-read (a .event) w _ _ _ (c .before .before .before .before .before .before .before .before .before .before .before .before .before .before .before .before .before .before .before .match .keys3) (g .ensures .0 .0) (g .ensures .0 .1) (ap readNumber (g .ensures .1)))
+returns-3 c = let a = c .before .before .before .before .before .before .before .before .before .before .before .before .before .before .before .before .before .before .before .before .before .before .before .before .before .args in let w = world (a .p) (buffers (a .old .now) (a .new .now) (a .states .now) (a .numbers .now) (a .picture .now) (a .rows .now)) in let g = c .before .before .before .before .before .before .before .before .before .before .before .before .read-data in stepped (a .event) w _ _ _ (c .with-byte .ensures) (does-read (a .event) w _ _ _ (c .before .before .before .before .before .before .before .before .before .before .before .before .before .before .before .before .before .before .before .match .keys3) (g .ensures .0 .0) (g .ensures .0 .1) (ap numberIn (g .ensures .1)))
 
 same-length-19 : tie.Need-same-length-19
 same-length-19 c = search needs
@@ -143,7 +143,7 @@ returns-5 : tie.Need-returns-5
 returns-5 c = let a = c .before .before .before .before .before .before .before .before .before .before .before .before .before .before .before .before .before .before .before .before .before .before .before .before .before .args in let w = world (a .p) (buffers (a .old .now) (a .new .now) (a .states .now) (a .numbers .now) (a .picture .now) (a .rows .now)) in let g = c .before .before .before .before .before .before .before .before .before .before .before .before .advance in stepped (a .event) w _ _ _ (c .no-read4 .ensures) (does-advance (a .event) w _ _ (c .before .before .before .before .before .before .before .before .before .before .before .before .before .before .before .before .before .before .before .match .keys5) (g .ensures .0) (g .ensures .1))
 
 returns-6 : tie.Need-returns-6
-returns-6 c = let a = c .before .before .before .before .before .before .args in let w = world (a .p) (buffers (a .old .now) (a .new .now) (a .states .now) (a .numbers .now) (a .picture .now) (a .rows .now)) in stepped (a .event) w _ _ _ refl (does-nothing (a .event) w (c .match .rest))
+returns-6 c = let a = c .before .before .before .before .before .before .args in let w = world (a .p) (buffers (a .old .now) (a .new .now) (a .states .now) (a .numbers .now) (a .picture .now) (a .rows .now)) in stepped (a .event) w _ refusal.Nothing _ refl (does-nothing (a .event) w (c .match .rest))
 
 pub step-spec : {M : Type 1} → statement M
 step-spec =
