@@ -6,9 +6,8 @@ use native.Mathlib.Nat.{not-suc-le-zero, le-of-suc-le-suc}
 use lib.IntN.{pos}
 use lib.ListN.{length, take, replicate, length-replicate}
 use lib.Seq.{length-take-le}
-use Rattle.controller.specs.World.{Buffers, buffers}
-use Rattle.playback.specs.Played.{played}
-use Rattle.print.specs.Shown.{room, lentFor, shown}
+use Rattle.controller.specs.World.{buffers}
+use Rattle.print.specs.Shown.{room, lentFor}
 
 part : {A : Type 0} (n m : ℕ) (x : A) → n ≤ m → take n (replicate m x) ≡ replicate n x
 part zero m x h = refl
@@ -23,11 +22,8 @@ module _ (file old new : List ℕ) (n m : ℕ) (e : n ≡ room file) (h : n ≤ 
   zeros : {A : Type 0} (x : A) → take n (replicate m x) ≡ replicate (room file) x
   zeros x = part n m x h ∙ ap (λ (k : ℕ). replicate k x) e
 
-  lent : buffers old new (take n (replicate m (pos 0))) (take n (replicate m 0)) (take n (replicate m 0)) (replicate 5120 0) ≡ lentFor file old new
-  lent = λ i. buffers old new (zeros (pos 0) i) (zeros {A = ℕ} 0 i) (zeros {A = ℕ} 0 i) (replicate 5120 0)
-
-  pub old-shown : played file (buffers old new (take n (replicate m (pos 0))) (take n (replicate m 0)) (take n (replicate m 0)) (replicate 5120 0)) .lent .old ≡ shown file old new .lent .old
-  old-shown = ap (λ (b : Buffers). played file b .lent .old) lent
-
-  pub new-shown : played file (buffers old new (take n (replicate m (pos 0))) (take n (replicate m 0)) (take n (replicate m 0)) (replicate 5120 0)) .lent .new ≡ shown file old new .lent .new
-  new-shown = ap (λ (b : Buffers). played file b .lent .new) lent
+  pub lent-zeros : (
+      buffers old new (take n (replicate m (pos 0))) (take n (replicate m 0)) (take n (replicate m 0)) (replicate 5120 0)
+      ≡ lentFor file old new
+      )
+  lent-zeros = λ i. buffers old new (zeros (pos 0) i) (zeros {A = ℕ} 0 i) (zeros {A = ℕ} 0 i) (replicate 5120 0)

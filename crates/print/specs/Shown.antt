@@ -12,7 +12,13 @@ unfoldable pub room : List ℕ → ℕ
 room file = min (pixelsOf (configIn file)) 8000
 
 abbrev pub lentFor : List ℕ → List ℕ → List ℕ → Buffers
-lentFor file old new = buffers old new (replicate (room file) (pos 0)) (replicate (room file) 0) (replicate (room file) 0) (replicate 5120 0)
+lentFor file old new =
+    let n = room file in
+    buffers old new (replicate n (pos 0)) (replicate n 0) (replicate n 0) (replicate 5120 0)
+
+-- an answer for each event of the largest capture
+abbrev pub lentAnswers : List ℕ
+lentAnswers = replicate 6521 0
 
 -- the record and all that was lent, after the last event
 abbrev pub shown : List ℕ → List ℕ → List ℕ → World

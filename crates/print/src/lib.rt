@@ -1,18 +1,17 @@
 // A capture played in buffers of its panel's size, and then written on standard output: the lines of
 // document 01, or the picture as a file that any viewer opens.
 //
-// The text is gathered in a buffer, so that an output takes few writes.
-mod lines;
-mod pgm;
-mod text;
+// The text goes through a buffer part by part, so that an output takes few writes.
+mod write;
 
+pub use output::Form;
 ghost use mathlib.Core.Path.{_≡_};
 ghost use Prim.Native.Nat.{_≤_};
-ghost use Rattle.controller.specs.Lent.{before};
-ghost use Rattle.playback.specs.Played as rule;
-ghost use Rattle.print.specs.Shown.{room, shown};
-use playback::Played;
+ghost use Rattle.controller.specs.Lent.{lent};
+ghost use Rattle.print.specs.Shown.{room, lentFor, lentAnswers, shown};
+use output::Outcome;
 use playback::play;
+use write::write;
 
 // A capture of the largest size and one byte more, so that a larger one is seen to be larger.
 pub const INPUT: usize = 65_537;
@@ -26,28 +25,7 @@ const ROWS: usize = 5_120;
 // An entry for each event of the largest capture.
 const EVENTS: usize = 6_521;
 
-// What is written of a capture that is not refused.
-pub enum Form {
-    // The lines of document 01, "The capture program".
-    Lines,
-    // The last picture alone, as a graymap.
-    Picture,
-}
-
-// Of a refused capture its number is written.
-fn write(file: &[u8], form: Form, played: Played, answers: &[u16], picture: &[u8], rows: &[u64]) {
-    if played.refused != 0 {
-        lines::refused(played.refused);
-        return;
-    }
-    let chip = played.chip;
-    match form {
-        Form::Lines => lines::played(file, chip, answers, picture, rows),
-        Form::Picture => pgm::graymap(chip, picture),
-    }
-}
-
-// The capture in buffers of its panel's size.
+// The capture in buffers of its panel's size: played, and then written.
 fn play_in(
     file: &[u8],
     form: Form,
@@ -59,11 +37,24 @@ fn play_in(
     picture: &mut [u8],
     rows: &mut [u64],
 )
-    ensures { λ r. ⌜ now (old .exit) ≡ rule.played (now (file .entry)) (before old new states numbers picture rows) .lent .old ⌝ }
-    ensures { λ r. ⌜ now (new .exit) ≡ rule.played (now (file .entry)) (before old new states numbers picture rows) .lent .new ⌝ }
+    requires { ⌜ lent old new states numbers picture rows ≡ lentFor (now file) (now old) (now new) ⌝ }
+    requires { ⌜ now answers ≡ lentAnswers ⌝ }
+    ensures { λ r. ⌜ now (old .exit) ≡ shown (now (file .entry)) (now (old .entry)) (now (new .entry)) .lent .old ⌝ }
+    ensures { λ r. ⌜ now (new .exit) ≡ shown (now (file .entry)) (now (old .entry)) (now (new .entry)) .lent .new ⌝ }
 {
+    let old_bytes = old.len();
+    let new_bytes = new.len();
     let played = play(file, answers, old, new, states, numbers, picture, rows);
-    write(file, form, played, answers, picture, rows);
+    let chip = played.chip;
+    let turned = played.refused;
+    let log = chip.log;
+    let image = chip.image;
+    let o = Outcome {
+        refused: turned.number(),
+        log,
+        image,
+    };
+    write(file, form, old_bytes, new_bytes, o, answers, picture, rows);
 }
 
 // How many pixels the capture's panel has, and no more than there is room for.

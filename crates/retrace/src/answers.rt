@@ -89,13 +89,15 @@ fn first(event: u8, busy: u8, deadline: u8) -> u64 {
 // Ours, after an event at that time which was refused by a number and read what it read.
 pub(crate) fn ours(p: Uc8253, at: u64, refused: u8, read: u16, planes: u64) -> Answers {
     let busy = busy_pin(p, at);
+    let busy_turned = busy.refused;
     let deadline = next_deadline(p);
+    let deadline_turned = deadline.refused;
     let due = deadline.due;
     let log = p.log;
     let image = p.image;
     Answers {
         stored: ANSWERS as u64,
-        refused: first(refused, busy.refused, deadline.refused),
+        refused: first(refused, busy_turned.number(), deadline_turned.number()),
         read: read as u64,
         busy: flag(busy.busy),
         due: is_due(due),

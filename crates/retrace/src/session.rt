@@ -73,8 +73,9 @@ fn meet(
     let at = event.time;
     let s = step(p, event, old, new, states, numbers, picture, rows);
     let chip = s.chip;
+    let refused = s.refused;
     let planes = digest_if(digested, old, new);
-    let here = ours(chip, at, s.refused, s.answer, planes);
+    let here = ours(chip, at, refused.number(), s.answer, planes);
     let tally = compare(t, i, here, next_answers());
     Met { chip, tally }
 }
@@ -139,8 +140,9 @@ fn retrace_in(
         rows,
     );
     let chip = made.chip;
+    let refused = made.refused;
     let count = capture::events_end(file) / EVENT_BYTES;
-    let start = held(t, 0, Which::Refused, made.refused as u64, 0);
+    let start = held(t, 0, Which::Refused, refused.number() as u64, 0);
     meet_all(
         start,
         chip,
@@ -164,7 +166,7 @@ fn pixels(file: &[u8]) -> usize
 
 // The session of a capture. One that is refused has no events.
 pub(crate) fn retrace(t: Tally, file: &[u8]) -> Tally {
-    let refused = capture::refused(file);
+    let refused = capture::refused(file).number();
     if refused != 0 {
         return held(t, 0, Which::Refused, refused as u64, 0);
     }

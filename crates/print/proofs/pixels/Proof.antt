@@ -22,11 +22,15 @@ pixels-requires c κs = search needs
 
 returns : tie.Need-returns
 unfolding room
-returns c = (below _ _ (c .before .pixels .ensures ∙ ap pixelsOf (c .before .before .config .ensures)) (c .if1 .taken), omega (arith, c .if1 .taken))
+returns c =
+    let e = c .before .pixels .ensures ∙ ap pixelsOf (c .before .before .config .ensures) in
+    (below _ _ e (c .if1 .taken), omega (arith, c .if1 .taken))
 
 returns-2 : tie.Need-returns-2
 unfolding room
-returns-2 c = (above _ _ (c .before .pixels .ensures ∙ ap pixelsOf (c .before .before .config .ensures)) (c .if1 .left), omega arith)
+returns-2 c =
+    let e = c .before .pixels .ensures ∙ ap pixelsOf (c .before .before .config .ensures) in
+    (above _ _ e (c .if1 .left), omega arith)
 
 pub pixels-spec : {M : Type 1} → statement M
 pixels-spec = tie.close (tie.spec config-requires pixels-requires returns returns-2)

@@ -1,9 +1,8 @@
 -- `print::show` meets its contract: no panel has more pixels than there is room for, and the other buffers are lent as zeros.
-
-use Rattle.print.proofs.Zeros.{length-part, old-shown, new-shown}
-use mathlib.Core.Path.{_∙_}
-use Prim.Native.Nat.{ℕ}
+use Rattle.print.proofs.Zeros.{length-part, lent-zeros}
+use mathlib.Core.Path.{refl}
 use lib.IntN.{ℤ, pos}
+use Prim.Native.Nat.{ℕ}
 use borrow.Author.Needs.{needs}
 use Rattle.print.proofs.show.Statement.{statement}
 use Rattle.print.proofs.show.Tie as tie
@@ -36,7 +35,10 @@ slice-aggregate-play-in-5 : tie.Need-slice-aggregate-play-in-5
 slice-aggregate-play-in-5 c = search needs
 
 play-in-requires : tie.Need-play-in-requires
-play-in-requires c κs = search needs
+play-in-requires c κs =
+    let a = c .before .before .before .before .before .before .before .before .before .before .before .args in
+    let e = c .before .before .before .before .before .before .before .pixels .ensures in
+    (lent-zeros (a .file .now) (a .old .now) (a .new .now) _ 8000 (e .0) (e .1), refl)
 
 same-length : tie.Need-same-length
 same-length c = search needs
@@ -45,7 +47,7 @@ same-length-2 : tie.Need-same-length-2
 same-length-2 c = search needs
 
 returns : tie.Need-returns
-returns c = let g = c .before .before .before .before .before .before .before .before .before .before .before .before .before .before .before .before .before .before .before .before .before .args in (c .before .before .before .before .before .before .before .before .before .play-in .ensures .0 ∙ old-shown (g .file .now) (g .old .now) (g .new .now) _ 8000 (c .before .before .before .before .before .before .before .before .before .before .before .before .before .before .before .before .before .pixels .ensures .0) (c .before .before .before .before .before .before .before .before .before .before .before .before .before .before .before .before .before .pixels .ensures .1), c .before .before .before .before .before .before .before .before .before .play-in .ensures .1 ∙ new-shown (g .file .now) (g .old .now) (g .new .now) _ 8000 (c .before .before .before .before .before .before .before .before .before .before .before .before .before .before .before .before .before .pixels .ensures .0) (c .before .before .before .before .before .before .before .before .before .before .before .before .before .before .before .before .before .pixels .ensures .1))
+returns c = search needs
 
 pub show-spec : {M : Type 1} → statement M
 show-spec =

@@ -1,13 +1,16 @@
 -- `retrace::session::retrace` is safe and ends: no panel has more pixels than there is room for.
-use Prim.Native.Nat.{ℕ}
-use lib.IntN.{ℤ, pos}
 use Rattle.print.proofs.Zeros.{length-part}
+use lib.IntN.{ℤ, pos}
+use Prim.Native.Nat.{ℕ}
 use borrow.Author.Needs.{needs}
 use Rattle.retrace.proofs.session.retrace.Statement.{statement}
 use Rattle.retrace.proofs.session.retrace.Tie as tie
 
 refused-requires : tie.Need-refused-requires
 refused-requires c κs = search needs
+
+number-requires : tie.Need-number-requires
+number-requires c κs = search needs
 
 cast-held : tie.Need-cast-held
 cast-held c = search needs
@@ -59,6 +62,7 @@ retrace-spec =
     tie.close
     (tie.spec
     refused-requires
+    number-requires
     cast-held
     held-requires
     returns

@@ -1,0 +1,5 @@
+pub mod Words
+pub mod UnitLaws
+pub mod PartLaws
+pub mod Example
+pub mod Short

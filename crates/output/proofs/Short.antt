@@ -1,0 +1,230 @@
+-- Every unit of a panel of at most 800 columns is shorter than a buffer of 8,192 bytes, so parts through such a buffer are the whole text.
+use mathlib.Core.Path.{_≡_, refl, sym, ap, _∙_}
+use mathlib.Core.Bool.{Bool, true, false}
+use mathlib.Core.List.{List, [], _∷_, _++_, map}
+use Prim.Native.Nat.{ℕ, zero, suc, _+_, _-_, _*_, _/_, _^_, _≤_, _<_}
+use native.Mathlib.Nat.{zero-mul, suc-mul, pow-zero, pow-succ'}
+use native.Mathlib.Omega.{arith}
+use native.Mathlib.Decide.{decLe, ℕ-discrete}
+use lib.Dec.{eqb, lit<}
+use lib.ListN.{length, getD, take, drop, length-append, length-take, length-map}
+use lib.Seq.{getD-take, getD-drop}
+use Rattle.base.specs.Pick.{pick}
+use Rattle.base.proofs.Cases.{both}
+use Rattle.base.proofs.Lists.{getD-past}
+use Rattle.glass.specs.declared.PanelImage.{PanelImage}
+use Rattle.glass.specs.declared.RefreshKind.{RefreshKind}
+use Rattle.glass.specs.declared.RefreshKind.the-variants.{PowerOn, Full, Partial}
+use Rattle.log.specs.declared.Log.{Log}
+use Rattle.capture.specs.Little.{little}
+use Rattle.text.specs.Text.{ascii, digits}
+use Rattle.text.proofs.Digits.{length-digits}
+use Rattle.output.specs.declared.Form.{Form}
+use Rattle.output.specs.declared.Form.the-variants as form
+use Rattle.output.specs.declared.Outcome.{Outcome}
+use Rattle.output.specs.Lines.{behind, spaced, line, byteWord, kindWord, flagWord, refreshWords}
+use Rattle.output.specs.Lines.{refusedLine, readLine, diagLine, droppedLine, imageLine, greysLine, graymapHead}
+use Rattle.output.specs.Units.{upTo, rowOf, readOf, lastOf, linesOf, graymapOf, playedOf, unitsOf}
+use Rattle.output.specs.Parts.{joined}
+use Rattle.output.proofs.PartLaws.{inParts, all-parts}
+
+-- what the machine's types say of the numbers, and the width of a panel that is not oversized
+pub record Sized (o : Outcome) (events answers picture rows : List ℕ) : Type 0 where
+  pub width : o .image .width ≤ 800
+  pub height : o .image .height < 2 ^ 64
+  pub refused : o .refused < 2 ^ 64
+  pub dropped : o .log .dropped < 2 ^ 64
+  pub generation : o .image .generation < 2 ^ 64
+  pub started : o .image .started < 2 ^ 64
+  pub at : o .image .at < 2 ^ 64
+  pub events-bytes : (i : ℕ) → getD events i 0 < 256
+  pub answers-words : (i : ℕ) → getD answers i 257 < 2 ^ 64
+  pub picture-bytes : (i : ℕ) → getD picture i 0 < 256
+  pub rows-words : (i : ℕ) → getD rows i 0 < 2 ^ 64
+
+-- ---- numbers in decimal
+word-short : (x : ℕ) → x < 2 ^ 64 → length (digits x) ≤ 20
+word-short x h = length-digits 19 x (omega (arith, h))
+
+byte-short : (x : ℕ) → x < 256 → length (digits x) ≤ 3
+byte-short x h = length-digits 2 x (omega (arith, h))
+
+-- ---- words behind blanks, each of at most m bytes
+AllShort : ℕ → List (List ℕ) → Type 0
+AllShort m [] = Unit
+AllShort m (w ∷ ws) = (length w ≤ m) × AllShort m ws
+
+length-behind : (m : ℕ) (ws : List (List ℕ)) → AllShort m ws → length (behind ws) ≤ length ws * (m + 1)
+unfolding AllShort
+length-behind m [] h = omega (arith, zero-mul (m + 1))
+length-behind m (w ∷ ws) h =
+    rw (length-append (32 ∷ w) (behind ws)) (omega (arith, h .0, length-behind m ws (h .1), suc-mul (length ws) (m + 1)))
+
+length-line : (m : ℕ) (w : List ℕ) (ws : List (List ℕ)) → AllShort m ws → length (line (w ∷ ws)) ≤ length w + length ws * (m + 1) + 1
+length-line m w ws h =
+    rw (length-append (w ++ behind ws) (ascii "\n"), length-append w (behind ws)) (omega (arith, length-behind m ws h))
+
+-- ---- rows of numbers
+numbers-short : (b m : ℕ) → ((x : ℕ) → x < b → length (digits x) ≤ m)
+    → (l : List ℕ) → ((i : ℕ) → getD l i 0 < b) → AllShort m (map digits l)
+unfolding AllShort
+numbers-short b m s [] h = tt
+numbers-short b m s (x ∷ l) h = (s x (h 0), numbers-short b m s l (λ i. h (suc i)))
+
+module _ (b n y : ℕ) (l : List ℕ) (h : (i : ℕ) → getD l i 0 < b) where
+  row-below : (i : ℕ) → getD (rowOf n y l) i 0 < b
+  row-below i = elim (decLe n i) [
+    | yes p ↦
+        let z : getD (rowOf n y l) i 0 ≡ 0 = getD-past (rowOf n y l) i 0 (omega (arith, length-take n (drop (y * n) l))) in
+        omega (arith, z, h 0)
+    | no p ↦ rw (getD-take n (drop (y * n) l) i 0 (omega arith), getD-drop (y * n) l i 0) (h (y * n + i))
+  ]
+
+  row-long : length (rowOf n y l) ≤ n
+  row-long = omega (arith, length-take n (drop (y * n) l))
+
+little-below : (l : List ℕ) → ((i : ℕ) → getD l i 0 < 256) → (n at : ℕ) → little l at n < 256 ^ n
+little-below l h zero at = rw (pow-zero 256) (omega arith)
+little-below l h (suc n) at = rw (pow-succ' 256 n) (omega (arith, h at, little-below l h n (suc at)))
+
+-- ---- line by line
+one-short : (w : List ℕ) (x : ℕ) → length w ≤ 7 → x < 2 ^ 64 → length (line (w ∷ digits x ∷ [])) < 8192
+unfolding AllShort
+one-short w x l h = omega (arith, length-line 20 w (digits x ∷ []) (word-short x h, tt))
+
+read-short : (time answer : ℕ) → time < 2 ^ 64 → answer < 2 ^ 64 → length (readLine time answer) < 8192
+unfolding readLine AllShort
+read-short time answer h k =
+    let b : length (byteWord answer) ≤ 20 = both (λ (w : List ℕ). length w ≤ 20) (eqb answer 256) (omega arith) (word-short answer k) in
+    omega (arith, length-line 20 (ascii "read") (digits time ∷ byteWord answer ∷ []) (word-short time h, (b, tt)))
+
+diag-short : (row : List ℕ) → length row ≤ 5 → ((i : ℕ) → getD row i 0 < 2 ^ 64) → length (diagLine row) < 8192
+unfolding diagLine
+diag-short row l h =
+    omega (arith, length-line 20 (ascii "diag") (map digits row) (numbers-short (2 ^ 64) 20 word-short row h), length-map row digits)
+
+kind-short : (k : RefreshKind) → length (kindWord k) ≤ 20
+kind-short PowerOn = omega arith
+kind-short Full = omega arith
+kind-short Partial = omega arith
+
+flag-short : (b : Bool) → length (flagWord b) ≤ 20
+flag-short true = omega arith
+flag-short false = omega arith
+
+greys-short : (row : List ℕ) → length row ≤ 800 → ((i : ℕ) → getD row i 0 < 256) → length (greysLine row) < 8192
+unfolding greysLine AllShort
+greys-short [] l h = omega arith
+greys-short (x ∷ row) l h =
+    let s : AllShort 3 (map digits row) = numbers-short 256 3 byte-short row (λ i. h (suc i)) in
+    omega (arith, length-line 3 (digits x) (map digits row) s, byte-short x (h 0), length-map row digits)
+
+-- ---- lists of units that are each shorter than the buffer
+abbrev pub Short : List (List ℕ) → Type 0
+Short us = (i : ℕ) → length (getD us i []) < 8192
+
+short-nil : Short []
+short-nil i = omega arith
+
+short-cons : (u : List ℕ) (us : List (List ℕ)) → length u < 8192 → Short us → Short (u ∷ us)
+short-cons u us h s zero = h
+short-cons u us h s (suc i) = s i
+
+short-append : (us vs : List (List ℕ)) → Short us → Short vs → Short (us ++ vs)
+short-append [] vs s t = t
+short-append (u ∷ us) vs s t = short-cons u (us ++ vs) (s 0) (short-append us vs (λ i. s (suc i)) t)
+
+short-up-to : (n : ℕ) (f : ℕ → List ℕ) → ((k : ℕ) → length (f k) < 8192) → Short (upTo n f)
+short-up-to zero f h = short-nil
+short-up-to (suc n) f h = short-cons (f 0) (upTo n (λ k. f (suc k))) (h 0) (short-up-to n (λ k. f (suc k)) (λ k. h (suc k)))
+
+module _ (o : Outcome) (events answers picture rows : List ℕ) (s : Sized o events answers picture rows) where
+  wide : o .image .width < 2 ^ 64
+  wide = omega (arith, s .width)
+
+  image-short : length (imageLine (o .image)) < 8192
+  unfolding imageLine AllShort
+  image-short =
+      let i = o .image in
+      let w = word-short (i .width) wide in
+      let h = word-short (i .height) (s .height) in
+      let g = word-short (i .generation) (s .generation) in
+      let b = word-short (i .started) (s .started) in
+      let e = word-short (i .at) (s .at) in
+      let rs : AllShort 20 (refreshWords i) = (kind-short (i .kind), (flag-short (i .interrupted), (b, (e, tt)))) in
+      let ws = digits (i .width) ∷ digits (i .height) ∷ digits (i .generation) ∷ refreshWords i in
+      omega (arith, length-line 20 (ascii "image") ws (w, (h, (g, rs))))
+
+  head-short : length (graymapHead (o .image .width) (o .image .height)) < 8192
+  unfolding graymapHead AllShort
+  head-short =
+      let w = o .image .width in
+      let h = o .image .height in
+      let l = line (digits w ∷ digits h ∷ []) in
+      rw (length-append (ascii "P5\n" ++ l) (ascii "255\n"), length-append (ascii "P5\n") l)
+      (omega (arith, length-line 20 (digits w) (digits h ∷ []) (word-short h (s .height), tt), word-short w wide))
+
+  read-of-short : (i : ℕ) → length (readOf events answers i) < 8192
+  unfolding readOf
+  read-of-short i =
+      let t : little events (i * 10) 8 < 2 ^ 64 = omega (arith, little-below events (s .events-bytes) 8 (i * 10)) in
+      both (λ (u : List ℕ). length u < 8192) (eqb (getD answers i 257) 257) (omega arith)
+      (read-short (little events (i * 10) 8) (getD answers i 257) t (s .answers-words i))
+
+  row-short : (y : ℕ) → length (greysLine (rowOf (o .image .width) y picture)) < 8192
+  row-short y =
+      greys-short (rowOf (o .image .width) y picture)
+      (omega (arith, row-long 256 (o .image .width) y picture (s .picture-bytes), s .width))
+      (row-below 256 (o .image .width) y picture (s .picture-bytes))
+
+  pixels-short : (y : ℕ) → length (rowOf (o .image .width) y picture) < 8192
+  pixels-short y = omega (arith, row-long 256 (o .image .width) y picture (s .picture-bytes), s .width)
+
+  stored-short : (k : ℕ) → length (diagLine (rowOf 5 k rows)) < 8192
+  stored-short k = diag-short (rowOf 5 k rows) (row-long (2 ^ 64) 5 k rows (s .rows-words)) (row-below (2 ^ 64) 5 k rows (s .rows-words))
+
+  -- ---- all of them
+  rows-short : Short (upTo (o .image .height) (λ y. greysLine (rowOf (o .image .width) y picture)))
+  rows-short = short-up-to (o .image .height) (λ y. greysLine (rowOf (o .image .width) y picture)) row-short
+
+  dropped-short : length (droppedLine (o .log .dropped)) < 8192
+  unfolding droppedLine
+  dropped-short = one-short (ascii "dropped") (o .log .dropped) (omega arith) (s .dropped)
+
+  last-short : Short (lastOf (o .log .dropped) (o .image) picture)
+  unfolding lastOf
+  last-short =
+      let greys = upTo (o .image .height) (λ y. greysLine (rowOf (o .image .width) y picture)) in
+      short-cons (droppedLine (o .log .dropped)) (imageLine (o .image) ∷ greys) dropped-short
+      (short-cons (imageLine (o .image)) greys image-short rows-short)
+
+  lines-short : Short (linesOf (o .log) (o .image) events answers picture rows)
+  unfolding linesOf
+  lines-short =
+      let reads = upTo (length events / 10) (readOf events answers) in
+      let stored = upTo (o .log .stored) (λ k. diagLine (rowOf 5 k rows)) in
+      let last = lastOf (o .log .dropped) (o .image) picture in
+      short-append reads (stored ++ last) (short-up-to (length events / 10) (readOf events answers) read-of-short)
+      (short-append stored last (short-up-to (o .log .stored) (λ k. diagLine (rowOf 5 k rows)) stored-short) last-short)
+
+  graymap-short : Short (graymapOf (o .image) picture)
+  unfolding graymapOf
+  graymap-short =
+      short-cons (graymapHead (o .image .width) (o .image .height)) (upTo (o .image .height) (λ y. rowOf (o .image .width) y picture))
+      head-short (short-up-to (o .image .height) (λ y. rowOf (o .image .width) y picture) pixels-short)
+
+  played-short : (f : Form) → Short (playedOf f o events answers picture rows)
+  played-short form.Lines = lines-short
+  played-short form.Picture = graymap-short
+
+  pub units-short : (f : Form) → Short (unitsOf f o events answers picture rows)
+  unfolding unitsOf refusedLine
+  units-short f =
+      both Short (eqb (o .refused) 0) (played-short f)
+      (short-cons (refusedLine (o .refused)) [] (one-short (ascii "refused") (o .refused) (omega arith) (s .refused)) short-nil)
+
+  -- so a buffer of 8,192 bytes takes the whole text, part by part
+  pub whole-text : (f : Form) → let us = unitsOf f o events answers picture rows in inParts 8192 (length us) 0 us ≡ joined us
+  whole-text f =
+      let us = unitsOf f o events answers picture rows in
+      all-parts 8192 (length us) 0 us (λ i h. units-short f i) (omega arith)

@@ -1,0 +1,196 @@
+-- Which unit stands at a place of the list, and how many there are.
+use mathlib.Core.Path.{_≡_, refl, sym, ap, _∙_}
+use mathlib.Core.List.{List, [], _∷_, _++_}
+use Prim.Native.Nat.{ℕ, zero, suc, _+_, _-_, _*_, _/_, _≤_, _<_}
+use native.Mathlib.Nat.{not-suc-le-zero, le-of-suc-le-suc, add-sub-cancel-left}
+use native.Mathlib.Omega.{arith}
+use lib.ListN.{length, getD, take, drop, length-append, length-drop, drop-of-length-le, List·getD-append}
+use lib.Seq.{take-nil, take-all, getD-append-add}
+use borrow.Author.Tests.{eq-eqb, ne-eqb}
+use Rattle.base.proofs.Lists.{getD-past}
+use Rattle.glass.specs.declared.PanelImage.{PanelImage}
+use Rattle.log.specs.declared.Log.{Log}
+use Rattle.capture.specs.Little.{little}
+use Rattle.output.specs.declared.Form.{Form}
+use Rattle.output.specs.declared.Form.the-variants as form
+use Rattle.output.specs.declared.Outcome.{Outcome}
+use Rattle.output.specs.Lines.{refusedLine, readLine, diagLine, droppedLine, imageLine, greysLine, graymapHead}
+use Rattle.output.specs.Units.{upTo, rowOf, readOf, lastOf, linesOf, graymapOf, unitsOf}
+
+length-up-to : {A : Type 0} (n : ℕ) (f : ℕ → A) → length (upTo n f) ≡ n
+length-up-to zero f = refl
+length-up-to (suc n) f = ap suc (length-up-to n (λ k. f (suc k)))
+
+at-up-to : {A : Type 0} (n : ℕ) (f : ℕ → A) (d : A) (i : ℕ) → i < n → getD (upTo n f) i d ≡ f i
+at-up-to zero f d i h = absurd (not-suc-le-zero h)
+at-up-to (suc n) f d zero h = refl
+at-up-to (suc n) f d (suc i) h = at-up-to n (λ k. f (suc k)) d i (le-of-suc-le-suc h)
+
+past-up-to : {A : Type 0} (n : ℕ) (f : ℕ → A) (d : A) (i : ℕ) → n ≤ i → getD (upTo n f) i d ≡ d
+past-up-to n f d i h = let e = length-up-to n f in getD-past (upTo n f) i d (omega (arith, e))
+
+-- in the first of two lists, or in the second
+module _ {A : Type 0} (l m : List A) (d : A) (n i : ℕ) (e : length l ≡ n) where
+  in-first : i < n → getD (l ++ m) i d ≡ getD l i d
+  in-first h = List·getD-append l m d i (omega (arith, e))
+
+  in-second : n ≤ i → getD (l ++ m) i d ≡ getD m (i - n) d
+  in-second h =
+      let s : i ≡ length l + (i - n) = omega (arith, e) in
+      ap (λ (k : ℕ). getD (l ++ m) k d) s ∙ getD-append-add l m (i - n) d
+
+-- ---- the lines
+module _ (g : Log) (p : PanelImage) (events answers picture rows : List ℕ) (i : ℕ) where
+  reads : List (List ℕ)
+  reads = upTo (length events / 10) (readOf events answers)
+
+  stored : List (List ℕ)
+  stored = upTo (g .stored) (λ k. diagLine (rowOf 5 k rows))
+
+  last : List (List ℕ)
+  last = lastOf (g .dropped) p picture
+
+  long : length reads ≡ length events / 10
+  unfolding reads
+  long = length-up-to (length events / 10) (readOf events answers)
+
+  stored-long : length stored ≡ g .stored
+  unfolding stored
+  stored-long = length-up-to (g .stored) (λ k. diagLine (rowOf 5 k rows))
+
+  pub is-read : i < length events / 10 → getD (linesOf g p events answers picture rows) i [] ≡ readOf events answers i
+  unfolding linesOf reads stored last
+  is-read h = in-first reads (stored ++ last) [] _ i long h ∙ at-up-to _ (readOf events answers) [] i h
+
+  module _ (h : length events / 10 ≤ i) where
+    behind-reads : getD (linesOf g p events answers picture rows) i [] ≡ getD (stored ++ last) (i - length events / 10) []
+    unfolding linesOf reads stored last
+    behind-reads = in-second reads (stored ++ last) [] _ i long h
+
+    pub is-stored : i - length events / 10 < g .stored
+        → getD (linesOf g p events answers picture rows) i [] ≡ diagLine (rowOf 5 (i - length events / 10) rows)
+    unfolding stored
+    is-stored k =
+        behind-reads
+        ∙ in-first stored last [] _ (i - length events / 10) stored-long k
+        ∙ at-up-to _ (λ k. diagLine (rowOf 5 k rows)) [] (i - length events / 10) k
+
+    pub is-last : g .stored ≤ i - length events / 10
+        → getD (linesOf g p events answers picture rows) i []
+        ≡ getD (lastOf (g .dropped) p picture) (i - length events / 10 - g .stored) []
+    unfolding last
+    is-last k = behind-reads ∙ in-second stored last [] _ (i - length events / 10) stored-long k
+
+-- ---- below them: the dropped count, the picture's head, and its rows
+module _ (n : ℕ) (p : PanelImage) (picture : List ℕ) where
+  pub is-dropped : (k : ℕ) → k ≡ 0 → getD (lastOf n p picture) k [] ≡ droppedLine n
+  unfolding lastOf
+  is-dropped k e = rw e
+
+  pub is-image : (k : ℕ) → k ≡ 1 → getD (lastOf n p picture) k [] ≡ imageLine p
+  unfolding lastOf
+  is-image k e = rw e
+
+  behind-two : (k : ℕ) → (k ≡ 0 → ⊥) → (k ≡ 1 → ⊥)
+      → getD (lastOf n p picture) k [] ≡ getD (upTo (p .height) (λ y. greysLine (rowOf (p .width) y picture))) (k - 2) []
+  unfolding lastOf
+  behind-two zero f h = absurd (f refl)
+  behind-two (suc zero) f h = absurd (h refl)
+  behind-two (suc (suc k)) f h =
+      let e : k ≡ suc (suc k) - 2 = omega arith in
+      ap (λ (j : ℕ). getD (upTo (p .height) (λ y. greysLine (rowOf (p .width) y picture))) j []) e
+
+  module _ (k : ℕ) (f : k ≡ 0 → ⊥) (h : k ≡ 1 → ⊥) where
+    pub is-greys : k - 2 < p .height → getD (lastOf n p picture) k [] ≡ greysLine (rowOf (p .width) (k - 2) picture)
+    is-greys l = behind-two k f h ∙ at-up-to _ (λ y. greysLine (rowOf (p .width) y picture)) [] (k - 2) l
+
+    pub is-past : p .height ≤ k - 2 → getD (lastOf n p picture) k [] ≡ []
+    is-past l = behind-two k f h ∙ past-up-to _ (λ y. greysLine (rowOf (p .width) y picture)) [] (k - 2) l
+
+-- ---- a graymap: its head, and its rows
+module _ (p : PanelImage) (picture : List ℕ) where
+  pub is-head : (i : ℕ) → i ≡ 0 → getD (graymapOf p picture) i [] ≡ graymapHead (p .width) (p .height)
+  unfolding graymapOf
+  is-head i e = rw e
+
+  behind-head : (i : ℕ) → (i ≡ 0 → ⊥)
+      → getD (graymapOf p picture) i [] ≡ getD (upTo (p .height) (λ y. rowOf (p .width) y picture)) (i - 1) []
+  unfolding graymapOf
+  behind-head zero f = absurd (f refl)
+  behind-head (suc i) f =
+      let e : i ≡ suc i - 1 = omega arith in
+      ap (λ (j : ℕ). getD (upTo (p .height) (λ y. rowOf (p .width) y picture)) j []) e
+
+  module _ (i : ℕ) (f : i ≡ 0 → ⊥) where
+    pub is-row : i - 1 < p .height → getD (graymapOf p picture) i [] ≡ rowOf (p .width) (i - 1) picture
+    is-row l = behind-head i f ∙ at-up-to _ (λ y. rowOf (p .width) y picture) [] (i - 1) l
+
+    pub is-past-row : p .height ≤ i - 1 → getD (graymapOf p picture) i [] ≡ []
+    is-past-row l = behind-head i f ∙ past-up-to _ (λ y. rowOf (p .width) y picture) [] (i - 1) l
+
+-- ---- a row of what is lent: none of it, a part, or the whole
+module _ (n y : ℕ) (l : List ℕ) where
+  pub row-none : length l ≤ y * n → [] ≡ rowOf n y l
+  row-none h = rw (drop-of-length-le l h, take-nil)
+
+  pub row-part : length l - y * n < n → take (length l - y * n) (drop (y * n) l) ≡ rowOf n y l
+  row-part h =
+      let m : length (drop (y * n) l) ≤ n = omega (arith, length-drop (y * n) l) in
+      let k : length (drop (y * n) l) ≤ length l - y * n = omega (arith, length-drop (y * n) l) in
+      take-all (length l - y * n) (drop (y * n) l) k ∙ sym (take-all n (drop (y * n) l) m)
+
+  pub row-whole : take (y * n + n - y * n) (drop (y * n) l) ≡ rowOf n y l
+  row-whole = ap (λ (k : ℕ). take k (drop (y * n) l)) (add-sub-cancel-left (y * n) n)
+
+-- ---- the event's line
+same-inside : (l : List ℕ) (i d e : ℕ) → i < length l → getD l i d ≡ getD l i e
+same-inside [] i d e h = absurd (not-suc-le-zero h)
+same-inside (x ∷ l) zero d e h = refl
+same-inside (x ∷ l) (suc i) d e h = same-inside l i d e (le-of-suc-le-suc h)
+
+module _ (events answers : List ℕ) (i : ℕ) where
+  pub read-past : length answers ≤ i → [] ≡ readOf events answers i
+  unfolding readOf
+  read-past h = rw (getD-past answers i 257 h)
+
+  module _ (h : i < length answers) where
+    pub read-other : getD answers i 0 ≡ 257 → [] ≡ readOf events answers i
+    unfolding readOf
+    read-other e = rw (same-inside answers i 257 0 h, e)
+
+    pub read-is : (getD answers i 0 ≡ 257 → ⊥) → readLine (little events (i * 10) 8) (getD answers i 0) ≡ readOf events answers i
+    unfolding readOf
+    read-is f = rw (same-inside answers i 257 0 h, ne-eqb (getD answers i 0) 257 f)
+
+-- ---- a single unit
+pub only-first : (u : List ℕ) (i : ℕ) → i ≡ 0 → u ≡ getD (u ∷ []) i []
+only-first u i e = rw e
+
+pub only-past : (u : List ℕ) (i : ℕ) → (i ≡ 0 → ⊥) → [] ≡ getD (u ∷ []) i []
+only-past u zero f = absurd (f refl)
+only-past u (suc i) f = refl
+
+-- ---- what is written of a capture, and how many units that is
+module _ (o : Outcome) (events answers picture rows : List ℕ) where
+  pub units-refused : (f : Form) → (o .refused ≡ 0 → ⊥) → unitsOf f o events answers picture rows ≡ refusedLine (o .refused) ∷ []
+  unfolding unitsOf
+  units-refused f h = rw (ne-eqb (o .refused) 0 h)
+
+  module _ (h : o .refused ≡ 0) (f : Form) where
+    pub units-lines : f ≡ form.Lines → unitsOf f o events answers picture rows ≡ linesOf (o .log) (o .image) events answers picture rows
+    unfolding unitsOf
+    units-lines e = rw (eq-eqb (o .refused) 0 h, e)
+
+    pub units-picture : f ≡ form.Picture → unitsOf f o events answers picture rows ≡ graymapOf (o .image) picture
+    unfolding unitsOf
+    units-picture e = rw (eq-eqb (o .refused) 0 h, e)
+
+pub length-lines : (g : Log) (p : PanelImage) (events answers picture rows : List ℕ)
+    → length (linesOf g p events answers picture rows) ≡ length events / 10 + (g .stored + p .height + 2)
+unfolding linesOf lastOf
+length-lines g p events answers picture rows =
+    simp (length-append, length-up-to) (omega arith)
+
+pub length-graymap : (p : PanelImage) (picture : List ℕ) → length (graymapOf p picture) ≡ p .height + 1
+unfolding graymapOf
+length-graymap p picture = simp length-up-to (omega arith)

@@ -1,0 +1,41 @@
+// The picture as a binary graymap of Netpbm (P5): width, height and the largest grey as text, then
+// a byte a pixel, 0 black to 255 white, rows from the top.
+ghost use mathlib.Core.List.{[]};
+ghost use lib.ListN.{getD};
+ghost use Rattle.text.specs.Text.{Puts};
+ghost use Rattle.output.specs.Lines.{graymapHead};
+ghost use Rattle.output.specs.Units.{graymapOf};
+use crate::parts::greys_of;
+use glass::PanelImage;
+use text::decimal;
+use text::number;
+use text::put;
+
+fn head(text: &mut [u8], held: usize, width: u16, height: u16) -> usize
+    ensures { λ r. ⌜ Puts (graymapHead width height) held r (now (text .entry)) (now (text .exit)) ⌝ }
+{
+    let magic = put(text, held, b"P5\n");
+    let columns = decimal(text, magic, width as u64);
+    let n = number(text, columns, height as u64);
+    put(text, n, b"\n255\n")
+}
+
+// Unit i: the head, or a row.
+pub(crate) fn unit(
+    text: &mut [u8],
+    held: usize,
+    image: PanelImage,
+    picture: &[u8],
+    i: usize,
+) -> usize
+    ensures { λ r. ⌜ Puts (getD (graymapOf image (now (picture .entry))) i []) held r (now (text .entry)) (now (text .exit)) ⌝ }
+{
+    if i == 0 {
+        return head(text, held, image.width, image.height);
+    }
+    let y = i - 1;
+    if image.height as usize <= y {
+        return put(text, held, b"");
+    }
+    put(text, held, greys_of(picture, image.width, y as u16))
+}
