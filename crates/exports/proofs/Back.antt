@@ -18,7 +18,8 @@ use Rattle.controller.specs.declared.Uc8253.{Uc8253}
 use Rattle.controller.specs.declared.Work.{Work}
 use Rattle.controller.specs.declared.Work.the-variants as works
 use Rattle.exports.specs.Taken.{variantOf, powerOf, paramsOf, kindOf, currentOf, refreshKindOf, workOf, activeOf, takenOf}
-use Rattle.exports.specs.Handed.{variantNumber, powerNumber, refreshNumber, paramsNumbers, kindNumbers, activeNumbers, currentNumbers, workNumbers, handedOf}
+use Rattle.exports.specs.Handed.{variantNumber, powerNumber, refreshNumber, paramsNumbers}
+use Rattle.exports.specs.Handed.{kindNumbers, activeNumbers, currentNumbers, workNumbers, handedOf}
 
 variant-back : (v : Variant) → variantOf (variantNumber v) ≡ v
 unfolding variantOf
@@ -43,7 +44,9 @@ params-back (bytes.Exactly n) = refl
 params-back (bytes.Between least most) = refl
 params-back bytes.Stream = refl
 
-kind-back : (k : Kind) → kindOf (kindNumbers k .kind) (paramsOf (kindNumbers k .params .params) (kindNumbers k .params .least) (kindNumbers k .params .most)) ≡ k
+kind-back : (k : Kind)
+    → kindOf (kindNumbers k .kind) (paramsOf (kindNumbers k .params .params) (kindNumbers k .params .least) (kindNumbers k .params .most))
+    ≡ k
 unfolding kindOf
 kind-back (kinds.Write p) = ap (λ (q : Params). kinds.Write q) (params-back p)
 kind-back kinds.Read = refl
@@ -68,7 +71,8 @@ current-back currents.Idle = refl
 current-back currents.Ignoring = refl
 current-back (currents.Active a) = ap (λ (b : Active). currents.Active b) (active-back a)
 
-work-back : (w : Work) → workOf (workNumbers w .work) (record { area = workNumbers w .area; kind = refreshKindOf (workNumbers w .kind) }) ≡ w
+work-back : (w : Work)
+    → workOf (workNumbers w .work) (record { area = workNumbers w .area; kind = refreshKindOf (workNumbers w .kind) }) ≡ w
 unfolding workOf
 work-back works.Nothing = refl
 work-back works.PowerOn = refl

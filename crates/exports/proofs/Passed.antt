@@ -1,56 +1,67 @@
--- A call that is passed on: what is shown of the records inside holds of the records of numbers, since what is handed over is taken back the same.
-use mathlib.Core.Path.{_≡_, refl, ap, _∙_}
+-- A call that is passed on: what is shown of the record inside holds of the numbers that are handed over,
+-- since the record that was taken is the one that they stand for.
+use mathlib.Core.Path.{_≡_, refl, sym, ap, _∙_}
+use mathlib.Core.List.{List}
 use mathlib.Core.Bool.{Bool, true, false}
 use Prim.Native.Nat.{ℕ}
-use lib.Dec.{eqb}
 use mir.Val.{boolByte}
 use Rattle.base.specs.Pick.{pick}
 use Rattle.controller.specs.declared.Uc8253.{Uc8253}
 use Rattle.controller.specs.World.{World, Buffers, world}
-use Rattle.controller.specs.Calls.{questionRefused, busyAnswer}
+use Rattle.controller.specs.Ask.{Ask, Answer, did, refusedBy, answered}
+use Rattle.events.specs.Events.{ran, refused}
 use Rattle.exports.specs.declared.handed.Handed.{Handed}
 use Rattle.exports.specs.declared.Given.{Given}
 use Rattle.exports.specs.declared.Asked.{Asked}
 use Rattle.exports.specs.Taken.{takenOf}
-use Rattle.exports.specs.Given.{givenOf, busyAsked}
-use Rattle.exports.proofs.Back.{back}
-
--- the record of what was given
-pub chip-given : (g : Given) (q : Uc8253) (n m : ℕ) → g ≡ givenOf q n m → takenOf (g .chip) ≡ q
-chip-given g q n m e = ap (λ (x : Given). takenOf (x .chip)) e ∙ back q
-
-pub refused-given : (g : Given) (q : Uc8253) (n m : ℕ) → g ≡ givenOf q n m → g .refused ≡ n
-refused-given g q n m e = ap (λ (x : Given). x .refused) e
-
-pub answer-given : (g : Given) (q : Uc8253) (n m : ℕ) → g ≡ givenOf q n m → g .answer ≡ m
-answer-given g q n m e = ap (λ (x : Given). x .answer) e
+use Rattle.exports.specs.Handed.{handedOf}
+use Rattle.exports.specs.Given.{givenOf, answerNumber, given, turnsAllBack, ranGiven, askedOf, asked}
 
 -- a function of the world that was taken
-pub of-taken : {A : Type 0} {x : A} (f : World → A) (p : Uc8253) (h : Handed) (b : Buffers) → p ≡ takenOf h → x ≡ f (world p b) → x ≡ f (world (takenOf h) b)
+pub of-taken : {A : Type 0} {x : A} (f : World → A) (p : Uc8253) (h : Handed) (b : Buffers)
+    → p ≡ takenOf h → x ≡ f (world p b) → x ≡ f (world (takenOf h) b)
 of-taken f p h b e q = q ∙ ap (λ (s : Uc8253). f (world s b)) e
 
--- the world after what was given
-pub world-given : (g : Given) (q : Uc8253) (n m : ℕ) (b : Buffers) {w : World} → g ≡ givenOf q n m → world q b ≡ w → world (takenOf (g .chip)) b ≡ w
-world-given g q n m b e r = ap (λ (s : Uc8253). world s b) (chip-given g q n m e) ∙ r
+module _ (a : Ask) (h : Handed) (p : Uc8253) (b : Buffers) (e : p ≡ takenOf h) where
+  -- a call: what it gives, and what is lent after it
+  pub given-is : {g : Given} {v : World} {n m : ℕ} → g ≡ givenOf h (v .chip) n m
+      → v ≡ did a (world p b) → n ≡ refusedBy a (world p b) → m ≡ answerNumber (answered a (world p b)) → g ≡ given a h b
+  given-is r w k l =
+      let w′ = of-taken (did a) p h b e w in
+      let k′ = of-taken (refusedBy a) p h b e k in
+      let l′ = of-taken (λ (v : World). answerNumber (answered a v)) p h b e l in
+      r ∙ (λ i. givenOf h (w′ i .chip) (k′ i) (l′ i))
 
--- a call at a time: the world after it, its refusal and its answer
-pub passed : (f : World → World) (t a : World → ℕ) (h : Handed) (p : Uc8253) (g : Given) (q : Uc8253) (n m : ℕ) (b b′ : Buffers)
-    → p ≡ takenOf h → g ≡ givenOf q n m → world q b′ ≡ f (world p b) → n ≡ t (world p b) → m ≡ a (world p b)
-    → ((world (takenOf (g .chip)) b′ ≡ f (world (takenOf h) b)) × (g .refused ≡ t (world (takenOf h) b))) × (g .answer ≡ a (world (takenOf h) b))
-passed f t a h p g q n m b b′ e r w k l = (
-  (world-given g q n m b′ r (of-taken f p h b e w), refused-given g q n m r ∙ of-taken t p h b e k),
-  answer-given g q n m r ∙ of-taken a p h b e l,
-)
+  pub passed : {g : Given} {q : Uc8253} {b′ : Buffers} {n m : ℕ} → g ≡ givenOf h q n m
+      → world q b′ ≡ did a (world p b) → n ≡ refusedBy a (world p b) → m ≡ answerNumber (answered a (world p b))
+      → (g ≡ given a h b) × (b′ ≡ did a (world (takenOf h) b) .lent)
+  passed r w k l = (given-is r w k l, ap (λ (v : World). v .lent) (of-taken (did a) p h b e w))
+
+  -- a question
+  pub asked-is : {g : Asked} {n : ℕ} {x : Answer}
+      → g ≡ askedOf n x → n ≡ refusedBy a (world p b) → x ≡ answered a (world p b) → g ≡ asked a h b
+  asked-is r k l =
+      let k′ = of-taken (refusedBy a) p h b e k in
+      let l′ = of-taken (answered a) p h b e l in
+      r ∙ (λ i. askedOf (k′ i) (l′ i))
+
+-- a run of events: every event turned back from the start, or not
+module _ (events : List ℕ) (h : Handed) (p : Uc8253) (b : Buffers) (e : p ≡ takenOf h) where
+  pub ran-kept : {n : ℕ} → turnsAllBack p b ≡ true → n ≡ refused events (world p b)
+      → _≡_ {A = Given} (record { chip = h; refused = n; answer = 257 }) (ranGiven events h b)
+  ran-kept t k =
+      let s : turnsAllBack (takenOf h) b ≡ true = ap (λ (q : Uc8253). turnsAllBack q b) (sym e) ∙ t in
+      rw s (λ i. record { chip = h; refused = of-taken (refused events) p h b e k i; answer = 257 })
+
+  pub ran-on : {n : ℕ} {x : Handed} {v : World} → turnsAllBack p b ≡ false → n ≡ refused events (world p b)
+      → x ≡ handedOf (v .chip) → v ≡ ran events (world p b)
+      → _≡_ {A = Given} (record { chip = x; refused = n; answer = 257 }) (ranGiven events h b)
+  ran-on t k c w =
+      let s : turnsAllBack (takenOf h) b ≡ false = ap (λ (q : Uc8253). turnsAllBack q b) (sym e) ∙ t in
+      let g = c ∙ ap (λ (u : World). handedOf (u .chip)) (of-taken (ran events) p h b e w) in
+      rw s (λ i. record { chip = g i; refused = of-taken (refused events) p h b e k i; answer = 257 })
 
 -- a test as a number
 pub as-number : (t : Bool) → boolByte t ≡ pick t 1 0
 as-number true = refl
 as-number false = refl
-
--- what a question about BUSY_N gives, from its two answers
-pub busy-given : (p q : Uc8253) (t n : ℕ) (low : Bool) → p ≡ q → n ≡ questionRefused p → low ≡ busyAnswer p t
-    → _≡_ {A = Asked} (record { value = boolByte low; refused = n; known = eqb n 0 }) (busyAsked q t)
-unfolding busyAsked
-busy-given p q t n low e k l =
-    ap (λ (v : ℕ). record { value = v; refused = n; known = eqb n 0 }) (as-number low)
-    ∙ ((λ i. record { value = pick (l i) 1 0; refused = k i; known = eqb (k i) 0 }) ∙ ap (λ (s : Uc8253). busyAsked s t) e)

@@ -73,7 +73,18 @@ activeNumbers a = record {
 }
 
 abbrev pub noActive : HandedActive
-noActive = record { received = 0; read = 0; least = 0; most = 0; cursor = record { x = 0; y = 0 }; command = 0; kind = 0; params = 0; «extra_reported» = false; «past_reported» = false }
+noActive = record {
+  received = 0;
+  read = 0;
+  least = 0;
+  most = 0;
+  cursor = record { x = 0; y = 0 };
+  command = 0;
+  kind = 0;
+  params = 0;
+  «extra_reported» = false;
+  «past_reported» = false;
+}
 
 abbrev pub currentNumbers : Current → HandedCurrent
 currentNumbers currents.Idle = record { current = 0; active = noActive }
@@ -97,10 +108,24 @@ workNumbers works.HardwareReset = plainWork 5
 workNumbers (works.Refresh r) = refreshNumbers r
 
 abbrev pub operationNumbers : Operation → HandedOperation
-operationNumbers o = record { started = o .started; until = o .until; area = workNumbers (o .work) .area; work = workNumbers (o .work) .work; kind = workNumbers (o .work) .kind }
+operationNumbers o = record {
+  started = o .started;
+  until = o .until;
+  area = workNumbers (o .work) .area;
+  work = workNumbers (o .work) .work;
+  kind = workNumbers (o .work) .kind;
+}
 
 abbrev pub imageNumbers : PanelImage → HandedImage
-imageNumbers i = record { generation = i .generation; started = i .started; at = i .at; width = i .width; height = i .height; kind = refreshNumber (i .kind); interrupted = i .interrupted }
+imageNumbers i = record {
+  generation = i .generation;
+  started = i .started;
+  at = i .at;
+  width = i .width;
+  height = i .height;
+  kind = refreshNumber (i .kind);
+  interrupted = i .interrupted;
+}
 
 -- the whole record
 unfoldable pub handedOf : Uc8253 → Handed

@@ -1,4 +1,5 @@
--- The controller's record of the numbers that cross from another language: one definition an enum, and a number past the last case stands for the last.
+-- The controller's record of the numbers that cross from another language: one definition an enum,
+-- and a number past the last case stands for the last.
 use Prim.Native.Nat.{ℕ}
 use lib.Dec.{eqb}
 use Rattle.base.specs.Pick.{pick}
@@ -70,13 +71,31 @@ activeOf h = record {
 }
 
 abbrev pub operationOf : HandedOperation → Operation
-operationOf h = record { work = workOf (h .work) (record { area = h .area; kind = refreshKindOf (h .kind) }); started = h .started; until = h .until }
+operationOf h = record {
+  work = workOf (h .work) (record { area = h .area; kind = refreshKindOf (h .kind) });
+  started = h .started;
+  until = h .until;
+}
 
 abbrev pub imageOf : HandedImage → PanelImage
-imageOf h = record { width = h .width; height = h .height; generation = h .generation; kind = refreshKindOf (h .kind); interrupted = h .interrupted; started = h .started; at = h .at }
+imageOf h = record {
+  width = h .width;
+  height = h .height;
+  generation = h .generation;
+  kind = refreshKindOf (h .kind);
+  interrupted = h .interrupted;
+  started = h .started;
+  at = h .at;
+}
 
 abbrev pub configOf : Handed → Uc8253Config
-configOf h = record { variant = variantOf (h .variant); panel = h .panel; optics = h .optics; timing = h .timing; «ambient_celsius» = h .ambient }
+configOf h = record {
+  variant = variantOf (h .variant);
+  panel = h .panel;
+  optics = h .optics;
+  timing = h .timing;
+  «ambient_celsius» = h .ambient;
+}
 
 abbrev pub modeOf : Handed → Mode
 modeOf h = record { power = powerOf (h .power); powered = h .powered; «data_flag» = h .«data_flag» }

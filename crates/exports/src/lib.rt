@@ -10,17 +10,23 @@ pub use handed::HandedOperation;
 use handed::hand_over;
 use taken::taken;
 ghost use mathlib.Core.Path.{_≡_};
-ghost use mathlib.Core.Bool.{false};
+ghost use mathlib.Core.Bool.{true, false};
+ghost use Rattle.base.specs.RefusalNumbers.{refusalNumber};
 ghost use Rattle.capture.specs.Layout.{configIn};
-ghost use Rattle.controller.specs.Lent.{Gives, Called, Makes, TurnsRows};
-ghost use Rattle.controller.specs.TurnedBack as tests;
-ghost use Rattle.controller.specs.Calls as calls;
+ghost use Rattle.controller.specs.World.{Buffers, world};
+ghost use Rattle.controller.specs.Setters.{withOld, withNew, withRows};
+ghost use Rattle.controller.specs.Calls.{made};
+ghost use Rattle.controller.specs.Ask as ask;
+ghost use Rattle.controller.specs.Lent.{before, after};
 ghost use Rattle.events.specs.Events as runs;
 ghost use Rattle.exports.specs.Taken.{takenOf};
 ghost use Rattle.exports.specs.Given as rule;
+use base::Refusal;
 use capture::config;
 use controller::Due;
 use controller::Uc8253;
+use controller::foreign;
+use controller::lengths_fit;
 use events::NO_READ;
 use events::read_number;
 use events::run;
@@ -37,7 +43,8 @@ use uc8253::take_diagnostics;
 use uc8253::write_command;
 use uc8253::write_data;
 
-// The record after a call, and the number of the refusal, 0 where the call was taken. The answer is
+// The record after a call, what was handed in where the call was turned back; the number of the
+// refusal, 0 where the call was taken. The answer is
 // what a read gave, 256 for none, and 257 for a call that reads nothing; of a taking, how many rows.
 #[repr(C)]
 pub struct Given {
@@ -54,23 +61,33 @@ pub struct Asked {
     pub known: bool,
 }
 
-fn give(p: Uc8253, refused: u8, answer: u16) -> Given
-    ensures { λ r. ⌜ r ≡ rule.givenOf p refused answer ⌝ }
+// A call that was turned back gives back what was handed in.
+fn give(back: Handed, p: Uc8253, refused: Refusal, answer: u16) -> Given
+    ensures { λ r. ⌜ r ≡ rule.givenOf back p (refusalNumber refused) answer ⌝ }
 {
-    let chip = hand_over(p);
+    let no = refused.number();
+    if refused.none() {
+        let chip = hand_over(p);
+        return Given {
+            chip,
+            refused: no,
+            answer,
+        };
+    }
     Given {
-        chip,
-        refused,
+        chip: back,
+        refused: no,
         answer,
     }
 }
 
 // After a call that reads nothing.
-fn no_read(a: Answer) -> Given
-    ensures { λ r. ⌜ r ≡ rule.givenOf (a .chip) (a .refused) 257 ⌝ }
+fn no_read(back: Handed, a: Answer) -> Given
+    ensures { λ r. ⌜ r ≡ rule.givenOf back (a .chip) (refusalNumber (a .refused)) 257 ⌝ }
 {
     let chip = a.chip;
-    give(chip, a.refused, NO_READ)
+    let refused = a.refused;
+    give(back, chip, refused, NO_READ)
 }
 
 // Making, under the configuration of a capture file.
@@ -84,11 +101,20 @@ pub extern "C" fn jollanqe_make(
     picture: &mut [u8],
     rows: &mut [u64],
 ) -> Given
-    ensures { λ r. ⌜ Makes (calls.made (configIn (now (file .entry)))) (tests.makingRefused (configIn (now (file .entry))))
-        (takenOf (r .chip)) (r .refused) old new states numbers picture rows × (r .answer ≡ 257) ⌝ }
+    ensures { λ r. ⌜ r ≡ rule.madeGiven (configIn (now (file .entry))) (before old new states numbers picture rows) ⌝ }
+    ensures { λ r. ⌜ after old new states numbers picture rows
+        ≡ made (configIn (now (file .entry))) (before old new states numbers picture rows) .lent ⌝ }
 {
     let config = config(file);
-    no_read(power_on(config, old, new, states, numbers, picture, rows))
+    let a = power_on(config, old, new, states, numbers, picture, rows);
+    let p = a.chip;
+    let refused = a.refused;
+    let chip = hand_over(p);
+    Given {
+        chip,
+        refused: refused.number(),
+        answer: NO_READ,
+    }
 }
 
 // A command byte.
@@ -104,11 +130,13 @@ pub extern "C" fn jollanqe_command(
     picture: &mut [u8],
     rows: &mut [u64],
 ) -> Given
-    ensures { λ r. ⌜ Called (calls.commandCall at command) (tests.turnedBack false at) (takenOf chip) (takenOf (r .chip)) (r .refused)
-        old new states numbers picture rows × (r .answer ≡ 257) ⌝ }
+    ensures { λ r. ⌜ rule.Passes (ask.command at command) chip r old new states numbers picture rows ⌝ }
 {
     let p = taken(chip);
-    no_read(write_command(p, at, command, old, new, states, numbers, picture, rows))
+    no_read(
+        chip,
+        write_command(p, at, command, old, new, states, numbers, picture, rows),
+    )
 }
 
 // A data byte.
@@ -124,11 +152,13 @@ pub extern "C" fn jollanqe_data(
     picture: &mut [u8],
     rows: &mut [u64],
 ) -> Given
-    ensures { λ r. ⌜ Called (calls.dataCall at byte) (tests.turnedBack false at) (takenOf chip) (takenOf (r .chip)) (r .refused)
-        old new states numbers picture rows × (r .answer ≡ 257) ⌝ }
+    ensures { λ r. ⌜ rule.Passes (ask.datum at byte) chip r old new states numbers picture rows ⌝ }
 {
     let p = taken(chip);
-    no_read(write_data(p, at, byte, old, new, states, numbers, picture, rows))
+    no_read(
+        chip,
+        write_data(p, at, byte, old, new, states, numbers, picture, rows),
+    )
 }
 
 // The next byte of a read.
@@ -143,16 +173,14 @@ pub extern "C" fn jollanqe_read(
     picture: &mut [u8],
     rows: &mut [u64],
 ) -> Given
-    ensures { λ r. ⌜ Called (calls.readCall at) (tests.turnedBack false at) (takenOf chip) (takenOf (r .chip)) (r .refused)
-        old new states numbers picture rows ⌝ }
-    ensures { λ r. ⌜ Gives (λ w. runs.readNumber (calls.readAnswer at w)) (takenOf chip) (r .answer)
-        old new states numbers picture rows ⌝ }
+    ensures { λ r. ⌜ rule.Passes (ask.reading at) chip r old new states numbers picture rows ⌝ }
 {
     let p = taken(chip);
     let a = read_data(p, at, old, new, states, numbers, picture, rows);
     let q = a.chip;
+    let refused = a.refused;
     let byte = a.byte;
-    give(q, a.refused, read_number(byte))
+    give(chip, q, refused, read_number(byte))
 }
 
 // The reset line goes low (asserted) or is released.
@@ -168,11 +196,13 @@ pub extern "C" fn jollanqe_reset(
     picture: &mut [u8],
     rows: &mut [u64],
 ) -> Given
-    ensures { λ r. ⌜ Called (calls.resetCall at asserted) (tests.turnedBack asserted at) (takenOf chip) (takenOf (r .chip)) (r .refused)
-        old new states numbers picture rows × (r .answer ≡ 257) ⌝ }
+    ensures { λ r. ⌜ rule.Passes (ask.reset at asserted) chip r old new states numbers picture rows ⌝ }
 {
     let p = taken(chip);
-    no_read(set_reset(p, at, asserted, old, new, states, numbers, picture, rows))
+    no_read(
+        chip,
+        set_reset(p, at, asserted, old, new, states, numbers, picture, rows),
+    )
 }
 
 // Brings the chip to a time.
@@ -187,11 +217,40 @@ pub extern "C" fn jollanqe_advance(
     picture: &mut [u8],
     rows: &mut [u64],
 ) -> Given
-    ensures { λ r. ⌜ Called (calls.advanceCall at) (tests.turnedBack false at) (takenOf chip) (takenOf (r .chip)) (r .refused)
-        old new states numbers picture rows × (r .answer ≡ 257) ⌝ }
+    ensures { λ r. ⌜ rule.Passes (ask.advance at) chip r old new states numbers picture rows ⌝ }
 {
     let p = taken(chip);
-    no_read(advance(p, at, old, new, states, numbers, picture, rows))
+    no_read(
+        chip,
+        advance(p, at, old, new, states, numbers, picture, rows),
+    )
+}
+
+// Every event of a run is turned back, by 6 or by 5.
+fn turns_all_back(
+    p: Uc8253,
+    old: &[u8],
+    new: &[u8],
+    states: &[i64],
+    numbers: &[u8],
+    picture: &[u8],
+    rows: &[u64],
+) -> bool
+    ensures { λ r. ⌜ r ≡ rule.turnsAllBack p (before old new states numbers picture rows) ⌝ }
+{
+    if foreign(p) {
+        return true;
+    }
+    let config = p.config;
+    !lengths_fit(
+        config,
+        old.len(),
+        new.len(),
+        states.len(),
+        numbers.len(),
+        picture.len(),
+        rows.len(),
+    )
 }
 
 // A run of events, ten bytes each; the refusal is the first one's.
@@ -207,55 +266,73 @@ pub extern "C" fn jollanqe_run(
     picture: &mut [u8],
     rows: &mut [u64],
 ) -> Given
-    ensures { λ r. ⌜ Called (runs.ran (now (events .entry))) (runs.refused (now (events .entry)))
-        (takenOf chip) (takenOf (r .chip)) (r .refused) old new states numbers picture rows × (r .answer ≡ 257) ⌝ }
-    ensures { λ r. ⌜ Gives (runs.answers (now (events .entry)) (now (answers .entry))) (takenOf chip) (now (answers .exit))
-        old new states numbers picture rows ⌝ }
+    ensures { λ r. ⌜ r ≡ rule.ranGiven (now (events .entry)) chip (before old new states numbers picture rows) ⌝ }
+    ensures { λ r. ⌜ after old new states numbers picture rows
+        ≡ runs.ran (now (events .entry)) (world (takenOf chip) (before old new states numbers picture rows)) .lent ⌝ }
+    ensures { λ r. ⌜ now (answers .exit) ≡ runs.answers (now (events .entry)) (now (answers .entry))
+        (world (takenOf chip) (before old new states numbers picture rows)) ⌝ }
 {
     let p = taken(chip);
+    let kept = turns_all_back(p, old, new, states, numbers, picture, rows);
     let ran = run(p, events, answers, old, new, states, numbers, picture, rows);
+    let refused = ran.refused;
+    let no = refused.number();
+    if kept {
+        return Given {
+            chip,
+            refused: no,
+            answer: NO_READ,
+        };
+    }
     let q = ran.chip;
-    give(q, ran.refused, NO_READ)
+    let last = hand_over(q);
+    Given {
+        chip: last,
+        refused: no,
+        answer: NO_READ,
+    }
 }
 
 // The rows are taken: the answer is how many.
 #[no_mangle]
 pub extern "C" fn jollanqe_take(chip: Handed, rows: &[u64]) -> Given
-    ensures { λ r. let p = takenOf chip in ⌜ TurnsRows calls.takeCall p (takenOf (r .chip)) rows
-        × (r .refused ≡ calls.takingRefused p (now (rows .entry))) × (r .answer ≡ calls.takenRows p (now (rows .entry))) ⌝ }
+    ensures { λ r. ⌜ ((b : Buffers) → r ≡ rule.given ask.taking chip (withRows (now (rows .entry)) b)) ⌝ }
 {
     let p = taken(chip);
     let t = take_diagnostics(p, rows);
     let q = t.chip;
-    give(q, t.refused, t.count)
+    let refused = t.refused;
+    give(chip, q, refused, t.count)
 }
 
 // Whether `BUSY_N` is low at a time: 1 where it is.
 #[no_mangle]
 pub extern "C" fn jollanqe_busy(chip: Handed, at: u64) -> Asked
-    ensures { λ r. ⌜ r ≡ rule.busyAsked (takenOf chip) at ⌝ }
+    ensures { λ r. ⌜ ((b : Buffers) → r ≡ rule.asked (ask.askBusy at) chip b) ⌝ }
 {
     let p = taken(chip);
     let b = busy_pin(p, at);
+    let refused = b.refused;
     Asked {
         value: b.busy as u64,
-        refused: b.refused,
-        known: b.refused == 0,
+        refused: refused.number(),
+        known: refused.none(),
     }
 }
 
-fn due_asked(refused: u8, due: Due) -> Asked
-    ensures { λ r. ⌜ r ≡ rule.dueAsked refused due ⌝ }
+fn due_asked(refused: Refusal, due: Due) -> Asked
+    ensures { λ r. ⌜ r ≡ rule.askedOf (refusalNumber refused) (ask.due due) ⌝ }
 {
+    let no = refused.number();
     match due {
         Due::Never => Asked {
             value: 0,
-            refused,
+            refused: no,
             known: false,
         },
         Due::At(time) => Asked {
             value: time,
-            refused,
+            refused: no,
             known: true,
         },
     }
@@ -264,38 +341,42 @@ fn due_asked(refused: u8, due: Due) -> Asked
 // The next time that `BUSY_N` rises or a picture is published; none where nothing runs.
 #[no_mangle]
 pub extern "C" fn jollanqe_deadline(chip: Handed) -> Asked
-    ensures { λ r. ⌜ r ≡ rule.deadlineAsked (takenOf chip) ⌝ }
+    ensures { λ r. ⌜ ((b : Buffers) → r ≡ rule.asked ask.askDeadline chip b) ⌝ }
 {
     let p = taken(chip);
     let d = next_deadline(p);
+    let refused = d.refused;
     let due = d.due;
-    due_asked(d.refused, due)
+    due_asked(refused, due)
 }
 
-fn found_asked(refused: u8, found: Found) -> Asked
-    ensures { λ r. ⌜ r ≡ rule.foundAsked refused found ⌝ }
+fn found_asked(refused: Refusal, found: Found) -> Asked
+    ensures { λ r. ⌜ r ≡ rule.askedOf (refusalNumber refused) (ask.bit found) ⌝ }
 {
+    let no = refused.number();
     match found {
         Found::Bit(bit) => Asked {
             value: bit as u64,
-            refused,
+            refused: no,
             known: true,
         },
         Found::Nothing => Asked {
             value: 0,
-            refused,
+            refused: no,
             known: false,
         },
     }
 }
 
-// A pixel of the lent plane; none past the RAM.
+// A pixel of the lent plane, the old one or the new; none past the RAM.
 #[no_mangle]
 pub extern "C" fn jollanqe_bit(chip: Handed, plane: &[u8], x: u16, y: u16) -> Asked
-    ensures { λ r. ⌜ r ≡ rule.bitAsked (takenOf chip) (now (plane .entry)) x y ⌝ }
+    ensures { λ r. ⌜ ((b : Buffers) → r ≡ rule.asked (ask.askBit true x y) chip (withOld (now (plane .entry)) b)) ⌝ }
+    ensures { λ r. ⌜ ((b : Buffers) → r ≡ rule.asked (ask.askBit false x y) chip (withNew (now (plane .entry)) b)) ⌝ }
 {
     let p = taken(chip);
     let b = ram_bit(p, plane, x, y);
+    let refused = b.refused;
     let found = b.found;
-    found_asked(b.refused, found)
+    found_asked(refused, found)
 }

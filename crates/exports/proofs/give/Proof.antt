@@ -1,13 +1,23 @@
--- `exports::give` meets its contract: the record's numbers, and the two numbers as they are.
+-- `exports::give` meets its contract: the numbers of the record after the call, or what was handed in.
+use mathlib.Core.Path.{sym, _∙_}
 use borrow.Author.Needs.{needs}
 use Rattle.exports.proofs.give.Statement.{statement}
 use Rattle.exports.proofs.give.Tie as tie
+
+number-requires : tie.Need-number-requires
+number-requires c κs = search needs
+
+none-requires : tie.Need-none-requires
+none-requires c κs = search needs
 
 hand-over-requires : tie.Need-hand-over-requires
 hand-over-requires c κs = search needs
 
 returns : tie.Need-returns
-returns c = simp (c .hand-over .ensures)
+returns c = simp (c .hand-over .ensures, c .before .before .before .number .ensures, sym (c .before .before .none .ensures) ∙ c .before .if1 .taken)
+
+returns-2 : tie.Need-returns-2
+returns-2 c = simp (c .before .before .number .ensures, sym (c .before .none .ensures) ∙ c .if1 .left)
 
 pub give-spec : {M : Type 1} → statement M
-give-spec = tie.close (tie.spec hand-over-requires returns)
+give-spec = tie.close (tie.spec number-requires none-requires hand-over-requires returns returns-2)

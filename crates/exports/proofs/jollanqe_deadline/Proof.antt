@@ -1,8 +1,6 @@
 -- `exports::jollanqe_deadline` meets its contract: the question about the record that was taken.
-use Rattle.exports.specs.Given.{dueAsked, deadlineAsked}
-use Rattle.controller.specs.Calls.{questionRefused, deadlineAnswer}
-use Rattle.controller.specs.declared.Uc8253.{Uc8253}
-use mathlib.Core.Path.{ap, _∙_}
+use Rattle.exports.proofs.Passed.{asked-is}
+use Rattle.controller.specs.Ask as ask
 use borrow.Author.Needs.{needs}
 use Rattle.exports.proofs.jollanqe_deadline.Statement.{statement}
 use Rattle.exports.proofs.jollanqe_deadline.Tie as tie
@@ -17,8 +15,7 @@ due-asked-requires : tie.Need-due-asked-requires
 due-asked-requires c κs = search needs
 
 returns : tie.Need-returns
-unfolding deadlineAsked
-returns c = c .due-asked .ensures ∙ ((λ i. dueAsked (c .before .next-deadline .ensures .0 i) (c .before .next-deadline .ensures .1 i)) ∙ ap (λ (s : Uc8253). dueAsked (questionRefused s) (deadlineAnswer s)) (c .before .before .taken .ensures))
+returns c = λ b. let a = c .before .next-deadline in asked-is ask.askDeadline (c .before .before .before .args .chip) _ b (c .before .before .taken .ensures) (c .due-asked .ensures) (a .ensures b .0) (a .ensures b .1)
 
 pub jollanqe-deadline-spec : {M : Type 1} → statement M
 jollanqe-deadline-spec =

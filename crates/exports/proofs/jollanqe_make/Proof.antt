@@ -1,10 +1,10 @@
--- `exports::jollanqe_make` meets its contract: the making under the file's configuration, its record handed over.
+-- `exports::jollanqe_make` meets its contract: the record that was made, handed over.
+use Rattle.exports.specs.Handed.{handedOf}
 use Rattle.controller.specs.TurnedBack.{makingRefused}
 use Rattle.controller.specs.Calls.{made}
 use Rattle.config.specs.declared.Uc8253Config.{Uc8253Config}
-use Rattle.exports.proofs.Passed.{world-given, refused-given, answer-given}
-use Rattle.controller.specs.World.{Buffers, buffers}
 use mathlib.Core.Path.{ap, _∙_}
+use Rattle.controller.specs.World.{World, Buffers, buffers}
 use borrow.Author.Needs.{needs}
 use Rattle.exports.proofs.jollanqe_make.Statement.{statement}
 use Rattle.exports.proofs.jollanqe_make.Tie as tie
@@ -15,11 +15,14 @@ config-requires c κs = search needs
 power-on-requires : tie.Need-power-on-requires
 power-on-requires c κs = search needs
 
-no-read-requires : tie.Need-no-read-requires
-no-read-requires c κs = search needs
+hand-over-requires : tie.Need-hand-over-requires
+hand-over-requires c κs = search needs
+
+number-requires : tie.Need-number-requires
+number-requires c κs = search needs
 
 same-length : tie.Need-same-length
-same-length c = search needs
+same-length c = c .before .before .before .before .before .before .before .before .before .before .before .before .before .before .power-on .kept .1 .0
 
 same-length-2 : tie.Need-same-length-2
 same-length-2 c = search needs
@@ -37,13 +40,7 @@ same-length-6 : tie.Need-same-length-6
 same-length-6 c = search needs
 
 returns : tie.Need-returns
-returns c =
-    let g = c .before .before .before .before .before .before .before .before .before .before .before .before .before .before .before .before .before .before .before .before .before .before .before .before .before .before .args in
-    let b : Buffers = buffers (g .old .now) (g .new .now) (g .states .now) (g .numbers .now) (g .picture .now) (g .rows .now) in
-    let a = c .before .before .before .before .before .before .before .before .before .before .before .before .power-on in
-    let r = c .no-read .ensures in
-    let e = c .before .before .before .before .before .before .before .before .before .before .before .before .before .before .before .before .before .before .before .config .ensures in
-    ((world-given _ _ _ _ _ r (a .ensures .0 ∙ ap (λ (s : Uc8253Config). made s b) e), refused-given _ _ _ _ r ∙ (a .ensures .1 ∙ ap (λ (s : Uc8253Config). makingRefused s b) e)), answer-given _ _ _ _ r)
+returns c = let g = c .before .before .before .before .before .before .before .before .before .before .before .before .before .before .before .before .before .before .before .before .before .before .before .before .before .before .before .before .args in let b : Buffers = buffers (g .old .now) (g .new .now) (g .states .now) (g .numbers .now) (g .picture .now) (g .rows .now) in let w = c .before .before .before .before .before .before .before .before .before .before .before .before .before .before .power-on .ensures .0 ∙ ap (λ (s : Uc8253Config). made s b) (c .before .before .before .before .before .before .before .before .before .before .before .before .before .before .before .before .before .before .before .before .before .config .ensures) in let k = c .number .ensures ∙ c .before .before .before .before .before .before .before .before .before .before .before .before .before .before .power-on .ensures .1 ∙ ap (λ (s : Uc8253Config). makingRefused s b) (c .before .before .before .before .before .before .before .before .before .before .before .before .before .before .before .before .before .before .before .before .before .config .ensures) in let h = c .before .hand-over .ensures ∙ ap (λ (v : World). handedOf (v .chip)) w in ((λ i. record { chip = h i; refused = k i; answer = 257 }), ap (λ (v : World). v .lent) w)
 
 pub jollanqe-make-spec : {M : Type 1} → statement M
 jollanqe-make-spec =
@@ -51,7 +48,8 @@ jollanqe-make-spec =
     (tie.spec
     config-requires
     power-on-requires
-    no-read-requires
+    hand-over-requires
+    number-requires
     same-length
     same-length-2
     same-length-3

@@ -1,11 +1,9 @@
 -- `exports::jollanqe_read` meets its contract: the call on the record that was taken, handed over.
-use Rattle.events.specs.Events.{readNumber}
-use mathlib.Core.Bool.{false}
-use Rattle.controller.specs.TurnedBack.{turnedBack}
-use Rattle.controller.specs.Calls.{readCall, readAnswer}
 use Rattle.exports.proofs.Passed.{passed}
-use Rattle.controller.specs.World.{World, Buffers, buffers}
+use Rattle.exports.specs.Given.{answerNumber}
 use mathlib.Core.Path.{ap, _∙_}
+use Rattle.controller.specs.Ask as ask
+use Rattle.controller.specs.World.{Buffers, buffers}
 use borrow.Author.Needs.{needs}
 use Rattle.exports.proofs.jollanqe_read.Statement.{statement}
 use Rattle.exports.proofs.jollanqe_read.Tie as tie
@@ -41,11 +39,7 @@ same-length-6 : tie.Need-same-length-6
 same-length-6 c = search needs
 
 returns : tie.Need-returns
-returns c =
-    let g = c .before .before .before .before .before .before .before .before .before .before .before .before .before .before .before .before .before .before .before .before .before .before .before .before .before .before .before .args in
-    let b : Buffers = buffers (g .old .now) (g .new .now) (g .states .now) (g .numbers .now) (g .picture .now) (g .rows .now) in
-    let a = c .before .before .before .before .before .before .before .before .before .before .before .before .before .before .read-data in
-    passed (λ (v : World). readCall (g .at) v) (λ (v : World). turnedBack false (g .at) v) (λ (v : World). readNumber (readAnswer (g .at) v)) (g .chip) _ _ _ _ _ b _ (c .before .before .before .before .before .before .before .before .before .before .before .before .before .before .before .before .before .before .before .before .before .taken .ensures) (c .give .ensures) (a .ensures .0 .0) (a .ensures .0 .1) (c .before .read-number .ensures ∙ ap readNumber (a .ensures .1))
+returns c = let g = c .before .before .before .before .before .before .before .before .before .before .before .before .before .before .before .before .before .before .before .before .before .before .before .before .before .before .before .args in let b : Buffers = buffers (g .old .now) (g .new .now) (g .states .now) (g .numbers .now) (g .picture .now) (g .rows .now) in let a = c .before .before .before .before .before .before .before .before .before .before .before .before .before .before .read-data in passed (ask.reading (g .at)) (g .chip) _ b (c .before .before .before .before .before .before .before .before .before .before .before .before .before .before .before .before .before .before .before .before .before .taken .ensures) (c .give .ensures) (a .ensures .0 .0) (a .ensures .0 .1) (c .before .read-number .ensures ∙ ap answerNumber (a .ensures .1))
 
 pub jollanqe-read-spec : {M : Type 1} → statement M
 jollanqe-read-spec =

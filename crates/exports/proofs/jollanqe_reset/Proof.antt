@@ -1,9 +1,8 @@
 -- `exports::jollanqe_reset` meets its contract: the call on the record that was taken, handed over.
-use Rattle.controller.specs.TurnedBack.{turnedBack}
-use Rattle.controller.specs.Calls.{resetCall}
 use Rattle.exports.proofs.Passed.{passed}
-use Rattle.controller.specs.World.{World, Buffers, buffers}
 use mathlib.Core.Path.{refl}
+use Rattle.controller.specs.Ask as ask
+use Rattle.controller.specs.World.{Buffers, buffers}
 use borrow.Author.Needs.{needs}
 use Rattle.exports.proofs.jollanqe_reset.Statement.{statement}
 use Rattle.exports.proofs.jollanqe_reset.Tie as tie
@@ -36,11 +35,7 @@ same-length-6 : tie.Need-same-length-6
 same-length-6 c = search needs
 
 returns : tie.Need-returns
-returns c =
-    let g = c .before .before .before .before .before .before .before .before .before .before .before .before .before .before .before .before .before .before .before .before .before .before .before .before .before .args in
-    let b : Buffers = buffers (g .old .now) (g .new .now) (g .states .now) (g .numbers .now) (g .picture .now) (g .rows .now) in
-    let a = c .before .before .before .before .before .before .before .before .before .before .before .before .set-reset in
-    passed (λ (v : World). resetCall (g .at) (g .asserted) v) (λ (v : World). turnedBack (g .asserted) (g .at) v) (λ (v : World). 257) (g .chip) _ _ _ _ _ b _ (c .before .before .before .before .before .before .before .before .before .before .before .before .before .before .before .before .before .before .before .taken .ensures) (c .no-read .ensures) (a .ensures .0) (a .ensures .1) refl
+returns c = let g = c .before .before .before .before .before .before .before .before .before .before .before .before .before .before .before .before .before .before .before .before .before .before .before .before .before .args in let b : Buffers = buffers (g .old .now) (g .new .now) (g .states .now) (g .numbers .now) (g .picture .now) (g .rows .now) in let a = c .before .before .before .before .before .before .before .before .before .before .before .before .set-reset in passed (ask.reset (g .at) (g .asserted)) (g .chip) _ b (c .before .before .before .before .before .before .before .before .before .before .before .before .before .before .before .before .before .before .before .taken .ensures) (c .no-read .ensures) (a .ensures .0) (a .ensures .1) refl
 
 pub jollanqe-reset-spec : {M : Type 1} → statement M
 jollanqe-reset-spec =

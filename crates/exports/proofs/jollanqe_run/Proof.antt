@@ -1,8 +1,8 @@
--- `exports::jollanqe_run` meets its contract: the run on the record that was taken, handed over.
-use Rattle.events.specs.Events.{eventsIn, ranTo, answersTo, refusedIn}
-use Rattle.exports.proofs.Passed.{world-given, of-taken, refused-given, answer-given}
+-- `exports::jollanqe_run` meets its contract: the run on the record that was taken; what was handed in, where every event is turned back.
+use Rattle.exports.proofs.Passed.{of-taken, ran-kept, ran-on}
+use Rattle.events.specs.Events.{ran, answers}
+use mathlib.Core.Path.{ap, sym, _∙_}
 use Rattle.controller.specs.World.{World, Buffers, buffers}
-use mathlib.Core.Path.{_∙_}
 use borrow.Author.Needs.{needs}
 use Rattle.exports.proofs.jollanqe_run.Statement.{statement}
 use Rattle.exports.proofs.jollanqe_run.Tie as tie
@@ -10,14 +10,17 @@ use Rattle.exports.proofs.jollanqe_run.Tie as tie
 taken-requires : tie.Need-taken-requires
 taken-requires c κs = search needs
 
+turns-all-back-requires : tie.Need-turns-all-back-requires
+turns-all-back-requires c κs = search needs
+
 run-requires : tie.Need-run-requires
 run-requires c κs = search needs
 
-give-requires : tie.Need-give-requires
-give-requires c κs = search needs
+number-requires : tie.Need-number-requires
+number-requires c κs = search needs
 
 same-length : tie.Need-same-length
-same-length c = c .before .before .before .before .before .before .before .before .before .before .before .before .before .before .before .run .kept .1 .1 .0
+same-length c = search needs
 
 same-length-2 : tie.Need-same-length-2
 same-length-2 c = search needs
@@ -38,22 +41,43 @@ same-length-7 : tie.Need-same-length-7
 same-length-7 c = search needs
 
 returns : tie.Need-returns
-returns c =
-    let g = c .before .before .before .before .before .before .before .before .before .before .before .before .before .before .before .before .before .before .before .before .before .before .before .before .before .before .before .before .before .before .before .args in
-    let b : Buffers = buffers (g .old .now) (g .new .now) (g .states .now) (g .numbers .now) (g .picture .now) (g .rows .now) in
-    let a = c .before .before .before .before .before .before .before .before .before .before .before .before .before .before .before .run in
-    let r = c .give .ensures in
-    let e = c .before .before .before .before .before .before .before .before .before .before .before .before .before .before .before .before .before .before .before .before .before .before .before .taken .ensures in
-    let n = eventsIn (g .events .now) in
-    (((world-given _ _ _ _ _ r (of-taken (λ (v : World). ranTo (g .events .now) n v) _ _ b e (a .ensures .0 .0)), refused-given _ _ _ _ r ∙ of-taken (λ (v : World). refusedIn (g .events .now) n v) _ _ b e (a .ensures .0 .1)), answer-given _ _ _ _ r), of-taken (λ (v : World). answersTo (g .events .now) n v (g .answers .now)) _ _ b e (a .ensures .1))
+returns c = let g = c .before .before .before .before .before .before .before .before .before .before .before .before .before .before .before .before .before .before .before .before .before .before .before .before .before .before .before .before .before .before .before .before .before .before .before .before .before .before .args in let b : Buffers = buffers (g .old .now) (g .new .now) (g .states .now) (g .numbers .now) (g .picture .now) (g .rows .now) in let a = c .before .before .before .before .before .before .before .before .before .before .before .before .before .before .before .run in let e = c .before .before .before .before .before .before .before .before .before .before .before .before .before .before .before .before .before .before .before .before .before .before .before .before .before .before .before .before .before .before .taken .ensures in let k = c .before .number .ensures ∙ a .ensures .0 .1 in (ran-kept (g .events .now) (g .chip) _ b e (sym (c .before .before .before .before .before .before .before .before .before .before .before .before .before .before .before .before .before .before .before .before .before .before .before .turns-all-back .ensures) ∙ c .if1 .taken) k, (ap (λ (v : World). v .lent) (of-taken (ran (g .events .now)) _ (g .chip) b e (a .ensures .0 .0)), of-taken (answers (g .events .now) (g .answers .now)) _ (g .chip) b e (a .ensures .1)))
+
+hand-over-requires : tie.Need-hand-over-requires
+hand-over-requires c κs = search needs
+
+same-length-8 : tie.Need-same-length-8
+same-length-8 c = c .before .before .before .before .before .before .before .before .before .before .before .before .before .before .before .before .before .run .kept .1 .1 .0
+
+same-length-9 : tie.Need-same-length-9
+same-length-9 c = c .before .before .before .before .before .before .before .before .before .before .before .before .before .before .before .before .before .run .kept .1 .1 .1 .0
+
+same-length-10 : tie.Need-same-length-10
+same-length-10 c = c .before .before .before .before .before .before .before .before .before .before .before .before .before .before .before .before .before .run .kept .1 .1 .1 .1 .0
+
+same-length-11 : tie.Need-same-length-11
+same-length-11 c = search needs
+
+same-length-12 : tie.Need-same-length-12
+same-length-12 c = search needs
+
+same-length-13 : tie.Need-same-length-13
+same-length-13 c = search needs
+
+same-length-14 : tie.Need-same-length-14
+same-length-14 c = search needs
+
+returns-2 : tie.Need-returns-2
+returns-2 c = let g = c .before .before .before .before .before .before .before .before .before .before .before .before .before .before .before .before .before .before .before .before .before .before .before .before .before .before .before .before .before .before .before .before .before .before .before .before .before .before .before .before .args in let b : Buffers = buffers (g .old .now) (g .new .now) (g .states .now) (g .numbers .now) (g .picture .now) (g .rows .now) in let a = c .before .before .before .before .before .before .before .before .before .before .before .before .before .before .before .before .before .run in let e = c .before .before .before .before .before .before .before .before .before .before .before .before .before .before .before .before .before .before .before .before .before .before .before .before .before .before .before .before .before .before .before .before .taken .ensures in let k = c .before .before .before .number .ensures ∙ a .ensures .0 .1 in (ran-on (g .events .now) (g .chip) _ b e (sym (c .before .before .before .before .before .before .before .before .before .before .before .before .before .before .before .before .before .before .before .before .before .before .before .before .before .turns-all-back .ensures) ∙ c .before .before .if1 .left) k (c .hand-over .ensures) (a .ensures .0 .0), (ap (λ (v : World). v .lent) (of-taken (ran (g .events .now)) _ (g .chip) b e (a .ensures .0 .0)), of-taken (answers (g .events .now) (g .answers .now)) _ (g .chip) b e (a .ensures .1)))
 
 pub jollanqe-run-spec : {M : Type 1} → statement M
 jollanqe-run-spec =
     tie.close
     (tie.spec
     taken-requires
+    turns-all-back-requires
     run-requires
-    give-requires
+    number-requires
     same-length
     same-length-2
     same-length-3
@@ -61,4 +85,13 @@ jollanqe-run-spec =
     same-length-5
     same-length-6
     same-length-7
-    returns)
+    returns
+    hand-over-requires
+    same-length-8
+    same-length-9
+    same-length-10
+    same-length-11
+    same-length-12
+    same-length-13
+    same-length-14
+    returns-2)

@@ -1,9 +1,10 @@
 -- `exports::jollanqe_take` meets its contract: the taking on the record that was taken, handed over.
-use Rattle.controller.specs.Calls.{takeCall, takingRefused, takenRows}
-use Rattle.exports.proofs.Passed.{world-given, of-taken, refused-given, answer-given}
-use Rattle.controller.specs.declared.Uc8253.{Uc8253}
-use Rattle.controller.specs.World.{World, Buffers, withRows}
-use mathlib.Core.Path.{ap, _∙_}
+use Rattle.exports.proofs.Passed.{given-is}
+use Rattle.exports.specs.Given.{answerNumber}
+use mathlib.Core.Path.{ap}
+use Rattle.controller.specs.Ask as ask
+use Rattle.controller.specs.Setters.{withRows}
+use Rattle.controller.specs.World.{Buffers, world}
 use borrow.Author.Needs.{needs}
 use Rattle.exports.proofs.jollanqe_take.Statement.{statement}
 use Rattle.exports.proofs.jollanqe_take.Tie as tie
@@ -18,12 +19,7 @@ give-requires : tie.Need-give-requires
 give-requires c κs = search needs
 
 returns : tie.Need-returns
-returns c =
-    let g = c .before .before .before .before .before .args in
-    let a = c .before .before .take-diagnostics in
-    let r = c .give .ensures in
-    let e = c .before .before .before .taken .ensures in
-    ((λ (b : Buffers). world-given _ _ _ _ (withRows (g .rows .now) b) r (of-taken (λ (v : World). takeCall v) _ _ (withRows (g .rows .now) b) e (a .ensures .0 b))), refused-given _ _ _ _ r ∙ (a .ensures .1 ∙ ap (λ (s : Uc8253). takingRefused s (g .rows .now)) e), answer-given _ _ _ _ r ∙ (a .ensures .2 ∙ ap (λ (s : Uc8253). takenRows s (g .rows .now)) e))
+returns c = λ b. let g = c .before .before .before .before .before .args in let a = c .before .before .take-diagnostics in let l : Buffers = withRows (g .rows .now) b in given-is ask.taking (g .chip) _ l (c .before .before .before .taken .ensures) {v = world (a .result .chip) l} (c .give .ensures) (a .ensures .0 b) (a .ensures .1 b .0) (ap answerNumber (a .ensures .1 b .1))
 
 pub jollanqe-take-spec : {M : Type 1} → statement M
 jollanqe-take-spec =

@@ -67,14 +67,8 @@ pub struct Registers {
 
 #[derive(Clone, Copy, Debug)]
 #[repr(C)]
-pub struct Lut {
-    pub bytes: [u8; 42],
-}
-
-#[derive(Clone, Copy, Debug)]
-#[repr(C)]
 pub struct Luts {
-    pub luts: [Lut; 5],
+    pub bytes: [[u8; 42]; 5],
 }
 
 #[derive(Clone, Copy, Debug)]
@@ -83,12 +77,6 @@ pub struct Group {
     pub codes: [u8; 4],
     pub frames: [u8; 4],
     pub repeats: u8,
-}
-
-#[derive(Clone, Copy, Debug)]
-#[repr(C)]
-pub struct Table {
-    pub groups: [Group; 7],
 }
 
 #[derive(Clone, Copy, Debug)]
@@ -102,7 +90,7 @@ pub struct Levels {
 #[derive(Clone, Copy, Debug)]
 #[repr(C)]
 pub struct Waveform {
-    pub tables: [Table; 5],
+    pub tables: [[Group; 7]; 5],
     pub levels: Levels,
     pub frame_ns: u64,
 }
