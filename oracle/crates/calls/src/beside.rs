@@ -196,7 +196,7 @@ impl Beside {
         self.compare_rows()
     }
 
-    /// The end of a session: every bit, every pixel, every row.
+    /// The end of a trace: every bit, every pixel, every row.
     pub fn end(&mut self) -> Result<(), Difference> {
         self.compare_whole()?;
         self.take()

@@ -1,4 +1,4 @@
-//! A whole session through both sides, and its shortest form that still shows a difference.
+//! A whole trace through both sides, and its shortest form that still shows a difference.
 
 use oracle::capture::Configuration;
 
@@ -13,7 +13,7 @@ pub struct Found {
     pub difference: Difference,
 }
 
-/// What both sides are shown to while a session goes on.
+/// What both sides are shown to while a trace goes on.
 pub trait Watch {
     fn refused(&mut self, _number: u8) {}
     fn piece(&mut self, _beside: &Beside, _steps: &[Step]) {}
@@ -25,8 +25,8 @@ struct Blind;
 
 impl Watch for Blind {}
 
-/// Runs a session through both sides up to the first difference.
-pub fn session(
+/// Runs a trace through both sides up to the first difference.
+pub fn trace(
     configuration: &Configuration,
     steps: &[Step],
     watch: &mut impl Watch,
@@ -60,10 +60,10 @@ fn met(beside: &mut Beside, piece: &[Step]) -> Result<(), Difference> {
     }
 }
 
-/// How often a shorter session is tried.
+/// How often a shorter trace is tried.
 const MOST_TRIES: usize = 4_000;
 
-/// Looks for the same kind of difference in shorter sessions.
+/// Looks for the same kind of difference in shorter traces.
 struct Search<'a> {
     configuration: &'a Configuration,
     what: &'static str,
@@ -74,7 +74,7 @@ impl Search<'_> {
     /// Up to where `steps` show it, if they do.
     fn shows(&mut self, steps: &[Step]) -> Option<usize> {
         self.tries += 1;
-        let found = session(self.configuration, steps, &mut Blind).err()?;
+        let found = trace(self.configuration, steps, &mut Blind).err()?;
         let count = found.event.map_or(0, |event| event + 1);
         (found.difference.what == self.what).then_some(count)
     }
@@ -132,9 +132,9 @@ fn fewer(configuration: &Configuration, steps: &[Step], found: &Found) -> Vec<St
     }
 }
 
-/// A session of as few steps, and what it shows.
+/// A trace of as few steps, and what it shows.
 pub fn reduced(configuration: &Configuration, steps: &[Step], found: Found) -> (Vec<Step>, Found) {
     let steps = fewer(configuration, steps, &found);
-    let shown = session(configuration, &steps, &mut Blind).err();
+    let shown = trace(configuration, &steps, &mut Blind).err();
     (steps, shown.unwrap_or(found))
 }

@@ -9,12 +9,12 @@ use oracle::rows::KIND_WORDS;
 
 use crate::beside::{Beside, deadline};
 use crate::compare::Watch;
-use crate::sessions;
+use crate::traces;
 use crate::steps::Step;
 
 type Section = (&'static str, &'static [&'static str]);
 
-const SESSIONS: &str = "sessions";
+const TRACES: &str = "traces";
 const PANELS: &str = "panels by size";
 const SETTINGS: &str = "panels by setting";
 const SINGLE: &str = "events by single calls";
@@ -27,7 +27,7 @@ const ROWS: &str = "rows by kind";
 const EVENTS: &[&str] = &["command", "data", "read", "reset", "advance"];
 
 const SECTIONS: [Section; 9] = [
-    (SESSIONS, &sessions::NAMES),
+    (TRACES, &traces::NAMES),
     (
         PANELS,
         &[
@@ -106,7 +106,7 @@ pub struct Coverage {
     pub in_runs: u64,
     pub refreshes: u64,
     pub resets: u64,
-    pub sessions: u64,
+    pub traces: u64,
     pub dropped: u64,
 }
 
@@ -165,9 +165,9 @@ impl Coverage {
         }
     }
 
-    pub fn session(&mut self, name: &'static str, of: &Configuration) {
-        self.sessions += 1;
-        self.add(SESSIONS, name, 1);
+    pub fn trace(&mut self, name: &'static str, of: &Configuration) {
+        self.traces += 1;
+        self.add(TRACES, name, 1);
         self.add(PANELS, size_word(of.pixels()), 1);
         self.add_if((of.sources, of.gates) == (792, 528), PANELS, "792 by 528");
         self.add_if((of.sources, of.gates) == (800, 600), PANELS, "800 by 600");
@@ -272,8 +272,8 @@ impl Coverage {
     /// One line of how far the run has come.
     pub fn progress(&self) -> String {
         format!(
-            "{} events by single calls, {} by run, {} refreshes, {} resets, {} sessions",
-            self.events, self.in_runs, self.refreshes, self.resets, self.sessions
+            "{} events by single calls, {} by run, {} refreshes, {} resets, {} traces",
+            self.events, self.in_runs, self.refreshes, self.resets, self.traces
         )
     }
 }

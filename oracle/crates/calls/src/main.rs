@@ -7,7 +7,7 @@ mod difference;
 mod keep;
 mod memory;
 mod sample;
-mod sessions;
+mod traces;
 mod steps;
 #[cfg(test)]
 mod tests;
@@ -20,7 +20,7 @@ use std::time::{Instant, SystemTime, UNIX_EPOCH};
 use oracle::rng::Rng;
 
 use coverage::Coverage;
-use sessions::Session;
+use traces::Trace;
 
 const USAGE: &str = "usage: calls [EVENTS [SEED]]
        calls sample DIR
@@ -30,15 +30,15 @@ const USUAL_EVENTS: u64 = 1_000_000;
 const EVENTS_A_REFRESH: u64 = 50;
 const PROGRESS_EVERY: u64 = 100_000;
 const DIFFERENCE: &str = "difference";
-/// Keeps the draws of a session's marks apart from those of the session.
+/// Keeps the draws of a trace's marks apart from those of the trace.
 const MARKS: u64 = 0x6D61_726B;
 
-/// Compares the session of `seed`; a difference is reduced and kept.
+/// Compares the trace of `seed`; a difference is reduced and kept.
 fn one(seed: u64, coverage: &mut Coverage) -> io::Result<bool> {
-    let Session { name, capture } = sessions::make(seed);
+    let Trace { name, capture } = traces::make(seed);
     let steps = steps::marked(&mut Rng::new(seed ^ MARKS), &capture.events);
-    coverage.session(name, &capture.configuration);
-    let Err(found) = compare::session(&capture.configuration, &steps, coverage) else {
+    coverage.trace(name, &capture.configuration);
+    let Err(found) = compare::trace(&capture.configuration, &steps, coverage) else {
         return Ok(true);
     };
     let head = format!("seed {seed}, {name}");
@@ -54,18 +54,18 @@ fn one(seed: u64, coverage: &mut Coverage) -> io::Result<bool> {
     Ok(false)
 }
 
-/// Sessions of `seed`, `seed` + 1, .. until so many events went by single calls.
+/// Traces of `seed`, `seed` + 1, .. until so many events went by single calls.
 fn compare(events: u64, seed: u64) -> io::Result<ExitCode> {
     println!("calls {events} {seed}");
     let begun = Instant::now();
     let mut coverage = Coverage::default();
     let mut next = PROGRESS_EVERY;
-    let mut session = seed;
+    let mut trace = seed;
     while coverage.events < events || coverage.refreshes < events / EVENTS_A_REFRESH {
-        if !one(session, &mut coverage)? {
+        if !one(trace, &mut coverage)? {
             return Ok(ExitCode::FAILURE);
         }
-        session = session.wrapping_add(1);
+        trace = trace.wrapping_add(1);
         if coverage.events >= next {
             println!("{} s: {}", begun.elapsed().as_secs(), coverage.progress());
             next = coverage.events + PROGRESS_EVERY;

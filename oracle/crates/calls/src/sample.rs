@@ -1,4 +1,4 @@
-//! The fixed sample: small sessions with the Rust's answers after every event, for a program that
+//! The fixed sample: small traces with the Rust's answers after every event, for a program that
 //! replays them with no Rust at hand. oracle/README.md has the layout.
 
 use std::fs;
@@ -12,9 +12,9 @@ use ours::{MOST_ROWS, Plane};
 
 use crate::beside::{answer_number, deadline, is_low};
 use crate::memory::plane_bytes;
-use crate::sessions;
+use crate::traces;
 
-const SESSIONS: usize = 60;
+const TRACES: usize = 60;
 const MOST_EVENTS_OF_MANY: usize = 130;
 /// So often the planes are digested, besides the last event.
 const DIGEST_EVERY: usize = 16;
@@ -74,8 +74,8 @@ impl Counted {
     }
 }
 
-/// A session of the sample.
-fn session(capture: &Capture) -> Vec<u8> {
+/// A trace of the sample.
+fn trace(capture: &Capture) -> Vec<u8> {
     let file = capture.encode();
     let accepted = || {
         run::accept(&file)
@@ -104,16 +104,16 @@ fn fits(capture: &Capture, most: usize) -> bool {
 /// The captures of the sample: one with more rows than are kept, then short ones of each kind.
 fn captures() -> Vec<Capture> {
     let crowded = (0..)
-        .map(sessions::crowded)
+        .map(traces::crowded)
         .find(|capture| fits(capture, MOST_EVENTS));
     let short = (0..)
-        .map(sessions::short)
+        .map(traces::short)
         .filter(|capture| fits(capture, MOST_EVENTS_OF_MANY));
-    crowded.into_iter().chain(short).take(SESSIONS).collect()
+    crowded.into_iter().chain(short).take(TRACES).collect()
 }
 
 pub fn bytes() -> Vec<u8> {
-    captures().iter().flat_map(session).collect()
+    captures().iter().flat_map(trace).collect()
 }
 
 /// Writes the sample as the standard input of the program that replays it.
@@ -123,7 +123,7 @@ pub fn write(directory: &Path) -> io::Result<String> {
     fs::create_dir_all(directory)?;
     fs::write(directory.join("stdin"), &bytes)?;
     Ok(format!(
-        "{} sessions, {events} events, {} bytes\n",
+        "{} traces, {events} events, {} bytes\n",
         captures.len(),
         bytes.len()
     ))

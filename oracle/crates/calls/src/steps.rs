@@ -1,4 +1,4 @@
-//! How a session's events are handed to the library: by single calls or by runs, and where the
+//! How a trace's events are handed to the library: by single calls or by runs, and where the
 //! rows are taken.
 
 use oracle::capture::Event;
@@ -14,12 +14,12 @@ pub struct Step {
     pub takes: bool,
 }
 
-/// Past so many events, most of a session goes by runs.
+/// Past so many events, most of a trace goes by runs.
 const LONG: usize = 12_000;
 const LONGEST_RUN: u64 = 400;
 const LONGEST_SINGLE: u64 = 60;
 
-/// The share of runs in a session.
+/// The share of runs in a trace.
 #[derive(Clone, Copy)]
 enum Runs {
     None,
@@ -41,7 +41,7 @@ fn takes(rng: &mut Rng) -> u64 {
     rng.pick(&[0, 0, 2, 10, 300])
 }
 
-/// The steps of a session, marked by chance.
+/// The steps of a trace, marked by chance.
 pub fn marked(rng: &mut Rng, events: &[Event]) -> Vec<Step> {
     let runs = runs(rng, events.len());
     let takes = takes(rng);

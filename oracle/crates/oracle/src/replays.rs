@@ -1,4 +1,4 @@
-//! `oracle replays`: captures and the published Rust's outputs, for the program `replays`.
+//! `oracle replays`: captures and the published Rust's outputs, for the program `test_captures`.
 
 use std::fs;
 use std::io;

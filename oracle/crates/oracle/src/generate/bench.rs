@@ -7,7 +7,7 @@ use crate::capture::{self, Capture, Configuration, Event, MOST_EVENTS};
 use crate::rng::Rng;
 use crate::run;
 
-/// A panel to drive: its configuration, and what a session must know to drive it well.
+/// A panel to drive: its configuration, and what a run must know to drive it well.
 pub struct Panel {
     pub rng: Rng,
     pub configuration: Configuration,
@@ -39,7 +39,7 @@ pub struct Bench {
     /// The most events, and those so far.
     most: usize,
     events: Vec<Event>,
-    /// What the session believes to be set: the frame-rate code, the area of start and
+    /// What the run believes to be set: the frame-rate code, the area of start and
     /// resolution, and the area that streams fill.
     pub pll: u8,
     pub active: Area,
@@ -53,7 +53,7 @@ pub const WHOLE_RAM: Area = Area {
 pub const RESET_PLL: u8 = 6;
 
 impl Bench {
-    /// A session whose capture the program takes.
+    /// A run whose capture the program takes.
     pub fn new(panel: Panel) -> Bench {
         Bench {
             most: MOST_EVENTS,
@@ -61,7 +61,7 @@ impl Bench {
         }
     }
 
-    /// A session of any length, on a panel of any size.
+    /// A run of any length, on a panel of any size.
     pub fn long(panel: Panel) -> Bench {
         let chip = Uc8253::new(panel.configuration.chip(), ONE_GIGAHERTZ)
             .expect("a panel is made to be in range");

@@ -7,14 +7,14 @@ use crate::refusal::Refusal;
 use crate::rng::Rng;
 
 use super::bench::Bench;
-use super::{panel, session};
+use super::{panel, run};
 
 const LONGEST_SOUND: usize = 60;
 
 /// A short accepted capture with one fault or two different ones.
 pub fn damaged(rng: Rng) -> Vec<u8> {
     let mut bench = Bench::new(panel::matched(rng));
-    session::turns(&mut bench);
+    reader::turns(&mut bench);
     let mut rng = Rng::new(bench.rng.any());
     let mut capture = bench.capture();
     capture

@@ -1,9 +1,9 @@
-//! Hostile sessions: any byte at any time, and more rows than are kept.
+//! Hostile runs: any byte at any time, and more rows than are kept.
 
 use crate::capture::Capture;
 
 use super::bench::Bench;
-use super::session;
+use super::reader;
 use super::window::partial;
 
 /// Commands that the controller has.
@@ -17,15 +17,15 @@ const KNOWN: [u8; 52] = [
 /// Any bytes at any time, around page turns that mostly still work.
 pub fn storm(mut bench: Bench) -> Capture {
     if bench.rng.chance(60) {
-        session::turns(&mut bench);
+        reader::turns(&mut bench);
     }
     for _ in 0..bench.rng.between(5, 60) {
         gust(&mut bench);
     }
     if bench.rng.chance(40) {
         bench.assert_reset();
-        session::wake(&mut bench);
-        session::turns(&mut bench);
+        reader::wake(&mut bench);
+        reader::turns(&mut bench);
     }
     bench.capture()
 }
@@ -35,15 +35,15 @@ fn gust(bench: &mut Bench) {
         0..=14 => short_noise(bench),
         15..=39 => known(bench),
         40..=59 => any_command(bench),
-        60..=67 => session::questions(bench),
+        60..=67 => reader::questions(bench),
         68..=75 => table_load(bench),
-        76..=79 => session::cut(bench),
-        80..=85 => session::wake(bench),
+        76..=79 => reader::cut(bench),
+        80..=85 => reader::wake(bench),
         86..=89 => bench.settle(),
         90..=92 => jump(bench),
         93 => bench.slip(),
         94 => bench.command(0x07, &[0xA5]),
-        95 => session::soft_reset(bench),
+        95 => reader::soft_reset(bench),
         96..=97 => bench.command(0x12, &[]),
         _ => partial(bench),
     }
@@ -91,7 +91,7 @@ fn jump(bench: &mut Bench) {
 
 /// More than 1,024 rows, with page turns before or after them.
 pub fn flood(mut bench: Bench) -> Capture {
-    session::turns(&mut bench);
+    reader::turns(&mut bench);
     let kind = bench.rng.below(3);
     for _ in 0..bench.rng.between(1_000, 1_300) {
         match kind {
@@ -100,6 +100,6 @@ pub fn flood(mut bench: Bench) -> Capture {
             _ => any_command(&mut bench),
         }
     }
-    session::turns(&mut bench);
+    reader::turns(&mut bench);
     bench.capture()
 }

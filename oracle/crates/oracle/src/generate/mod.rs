@@ -1,10 +1,10 @@
-//! Captures made from a seed: realistic sessions, hostile ones and damaged files.
+//! Captures made from a seed: realistic runs, hostile ones and damaged files.
 
 pub mod bench;
 mod damage;
 pub mod hostile;
 pub mod panel;
-pub mod session;
+pub mod reader;
 mod settings;
 pub mod tables;
 pub mod window;
@@ -24,8 +24,8 @@ pub fn make(seed: u64) -> Vec<u8> {
         110..=121 => hostile::flood(Bench::new(panel::matched(rng))).encode(),
         122..=221 => hostile::storm(Bench::new(panel::extreme(rng))).encode(),
         222..=281 => hostile::storm(Bench::new(panel::matched(rng))).encode(),
-        282..=381 => session::session(Bench::new(panel::extreme(rng))).encode(),
-        _ => session::session(Bench::new(panel::matched(rng))).encode(),
+        282..=381 => reader::run(Bench::new(panel::extreme(rng))).encode(),
+        _ => reader::run(Bench::new(panel::matched(rng))).encode(),
     }
 }
 
@@ -34,11 +34,11 @@ fn silent(rng: Rng) -> Capture {
     Bench::new(panel::matched(rng)).capture()
 }
 
-/// A session that goes on until no further event fits.
+/// A run that goes on until no further event fits.
 fn full(rng: Rng) -> Capture {
     let mut bench = Bench::new(panel::matched(rng));
     while bench.count() < MOST_EVENTS {
-        session::turns(&mut bench);
+        reader::turns(&mut bench);
     }
     bench.capture()
 }

@@ -59,8 +59,8 @@ fn crate_file(path: &str) -> Vec<u8> {
 #[test]
 fn the_stored_sample_is_the_written_one() {
     let sample = replays::sample(1, 344);
-    assert!(crate_file("replays/stdin") == sample.input);
-    assert!(crate_file("replays/stdout") == sample.output.as_bytes());
+    assert!(crate_file("test_captures/stdin") == sample.input);
+    assert!(crate_file("test_captures/stdout") == sample.output.as_bytes());
 }
 
 /// The graymap's bytes are the greys that `run` prints, and the stored one is the Rust's.

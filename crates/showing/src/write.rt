@@ -1,0 +1,95 @@
+// The text of a capture that was played, on standard output.
+ghost use Rattle.output.specs.Units.{unitsOf};
+ghost use Rattle.playback.specs.Played.{eventsOf};
+ghost use Rattle.showing.specs.Output.{Output, Between};
+use libc::STDERR_FILENO;
+use libc::STDOUT_FILENO;
+use output::Form;
+use output::Outcome;
+use output::count;
+use output::next_part;
+
+// The bytes of the buffer: most outputs take one write.
+const ROOM: usize = 8_192;
+
+// Writes the bytes, which are the file's output from one unit up to another, and answers whether
+// they could be written. What they are of, and the lengths of the planes, are named for the
+// condition alone.
+fn emit(
+    file: &[u8],
+    form: Form,
+    old: usize,
+    new: usize,
+    from: usize,
+    next: usize,
+    bytes: &[u8],
+) -> bool
+    requires { ⌜ Between form (now file) old new from next (now bytes) ⌝ }
+{
+    if io::write_all(STDOUT_FILENO, bytes) {
+        return true;
+    }
+    io::write_all(STDERR_FILENO, b"could not write to standard output\n");
+    false
+}
+
+// All units, part by part, up to a write that fails.
+fn write_parts(
+    text: &mut [u8],
+    file: &[u8],
+    form: Form,
+    old: usize,
+    new: usize,
+    o: Outcome,
+    events: &[u8],
+    answers: &[u16],
+    picture: &[u8],
+    rows: &[u64],
+)
+    requires { ⌜ Output form (now file) old new (unitsOf form o (now events) (now answers) (now picture) (now rows)) ⌝ }
+{
+    let end = count(form, o, events);
+    let mut from: usize = 0;
+    while from < end {
+        let part = next_part(text, form, o, events, answers, picture, rows, from);
+        let held = part.held;
+        let next = part.next;
+        if next == from {
+            io::write_all(STDERR_FILENO, b"a line is longer than the buffer\n");
+            return;
+        }
+        if !emit(file, form, old, new, from, next, &text[..held]) {
+            return;
+        }
+        from = next;
+    }
+}
+
+// What the capture came to.
+pub(crate) fn write(
+    file: &[u8],
+    form: Form,
+    old: usize,
+    new: usize,
+    o: Outcome,
+    answers: &[u16],
+    picture: &[u8],
+    rows: &[u64],
+)
+    requires { ⌜ Output form (now file) old new (unitsOf form o (eventsOf (now file)) (now answers) (now picture) (now rows)) ⌝ }
+{
+    let end = capture::events_end(file);
+    let mut text = [0u8; ROOM];
+    write_parts(
+        &mut text,
+        file,
+        form,
+        old,
+        new,
+        o,
+        &file[..end],
+        answers,
+        picture,
+        rows,
+    );
+}
