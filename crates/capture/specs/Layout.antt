@@ -89,5 +89,5 @@ countOf file = little file (length file - 4) 4
 unfoldable pub configIn : List ℕ → Uc8253Config
 configIn file = configOf file (offsetOf file)
 
-abbrev pub pixelsOf : Uc8253Config → ℕ
-pixelsOf c = c .panel .sources * c .panel .gates
+abbrev pub pixelCount : Uc8253Config → ℕ
+pixelCount c = c .panel .sources * c .panel .gates

@@ -7,7 +7,7 @@ use lib.Dec.{eqb, ltb, leb}
 use lib.ListN.{length}
 use Rattle.base.specs.Pick.{pick}
 use Rattle.config.specs.Refusal.{refusal}
-use Rattle.capture.specs.Layout.{kindAt, valueAt, variantAt, flagsAt, offsetOf, countOf, configIn, pixelsOf}
+use Rattle.capture.specs.Layout.{kindAt, valueAt, variantAt, flagsAt, offsetOf, countOf, configIn, pixelCount}
 
 -- 8, broken capture: file under 320 or over 65,536 bytes, trailer offset not 10 × its count, or file length not offset + 320
 unfoldable pub broken : List ℕ → Bool
@@ -40,7 +40,7 @@ badEvent file =
 
 -- 10, too many pixels: the program's panel has more than 8,000
 unfoldable pub tooMany : List ℕ → Bool
-tooMany file = ltb 8000 (pixelsOf (configIn file))
+tooMany file = ltb 8000 (pixelCount (configIn file))
 
 -- the number of the first that is met, 0 if none is
 unfoldable pub captureRefused : List ℕ → ℕ
@@ -65,4 +65,4 @@ pub record Taken (file : List ℕ) : Type 0 where
   pub flags-most : flagsAt file (offsetOf file) ≤ 7
   pub events-listed : (i : ℕ) → i < countOf file → listed (kindAt file i) (valueAt file i) ≡ true
   pub config-taken : refusal (configIn file) ≡ 0
-  pub pixels-most : pixelsOf (configIn file) ≤ 8000
+  pub pixels-most : pixelCount (configIn file) ≤ 8000

@@ -171,7 +171,7 @@ pub fn config(file: &[u8]) -> Uc8253Config
 
 // The pixels of a panel: sources × gates.
 pub fn pixels(c: Uc8253Config) -> usize
-    ensures { λ r. ⌜ r ≡ spec.pixelsOf c ⌝ }
+    ensures { λ r. ⌜ r ≡ spec.pixelCount c ⌝ }
 {
     c.panel.sources as usize * c.panel.gates as usize
 }

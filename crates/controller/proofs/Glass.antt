@@ -23,7 +23,7 @@ use Rattle.ram.specs.Plane.{bitAt}
 use Rattle.ram.proofs.CopyLaws.{length-copied}
 use Rattle.numbers.specs.declared.Pixels.{Pixels}
 use Rattle.numbers.specs.Filled.{rowsFilled}
-use Rattle.numbers.specs.Number.{pixelsOf, numberOf, tableOf, shownAt}
+use Rattle.numbers.specs.Number.{mappingOf, numberOf, transitionOf, shownAt}
 use Rattle.numbers.proofs.FilledLaws.{length-rows, rows-at}
 use Rattle.waveform.specs.Levels.{levelsOf}
 use Rattle.glass.specs.Walk.{walk}
@@ -31,7 +31,7 @@ use Rattle.glass.specs.declared.RefreshKind.{RefreshKind}
 use Rattle.glass.proofs.WalkLaws.{walk-within}
 use Rattle.pixels.specs.Drive.{framesFor}
 use Rattle.pixels.specs.Draw.{drawn}
-use Rattle.pixels.specs.States.{everyState, InRange, isNumber, everyNumber}
+use Rattle.pixels.specs.States.{everyState, StateInRange, isNumber, everyNumber}
 use Rattle.pixels.proofs.ListLaws.{beside-length, beside-at, beside-past}
 use Rattle.pixels.proofs.StateLaws.{states-in-range, in-range-states, table-number, undriven-number, known-numbers}
 use Rattle.pixels.proofs.DrawLaws.{drawn-length}
@@ -57,12 +57,12 @@ module _ (swing : ℕ) (frames : ℕ → List ℤ) (numbers : List ℕ) (states 
   walked-length = beside-length stepped numbers states
 
   walked-at : everyState swing states ≡ true → (i : ℕ) → i < length states
-      → InRange swing (getD (walked swing frames numbers states) i (pos 0))
+      → StateInRange swing (getD (walked swing frames numbers states) i (pos 0))
   unfolding walked
   walked-at e i h = elim (decLe (length numbers) i) [
-    | yes k ↦ subst (λ (z : ℤ). InRange swing z) (sym (beside-past stepped i numbers states (pos 0) k)) (states-in-range swing states e i h)
+    | yes k ↦ subst (λ (z : ℤ). StateInRange swing z) (sym (beside-past stepped i numbers states (pos 0) k)) (states-in-range swing states e i h)
     | no k ↦
-        subst (λ (z : ℤ). InRange swing z) (sym (beside-at stepped i numbers states 255 (pos 0) (omega arith) h))
+        subst (λ (z : ℤ). StateInRange swing z) (sym (beside-at stepped i numbers states 255 (pos 0) (omega arith) h))
         (record {
           is = refl;
           within =
@@ -110,8 +110,8 @@ record Known (n : ℕ) : Type 0 where
 table : (n : ℕ) → 1 ≤ n → n ≤ 4 → Known n
 table n h k = record { ok = table-number n h k }
 
-table-known : (old new : Bool) → Known (tableOf old new)
-unfolding tableOf
+table-known : (old new : Bool) → Known (transitionOf old new)
+unfolding transitionOf
 table-known old new =
     both Known old (both Known new (table 1 (omega arith) (omega arith)) (table 3 (omega arith) (omega arith)))
     (both Known new (table 2 (omega arith) (omega arith)) (table 4 (omega arith) (omega arith)))
@@ -134,13 +134,13 @@ numbers-length w s =
 -- the number of each pixel, row by row
 pub noted : (w : World) → Sound w → (p : ℕ) → p < w .chip .config .panel .sources * w .chip .config .panel .gates
     → getD (numbersNow (w .chip) (w .lent)) p 255
-    ≡ numberOf (pixelsOf (w .chip .config .panel) (w .chip .regs) (w .chip .config .variant)) (w .lent .old) (w .lent .new)
+    ≡ numberOf (mappingOf (w .chip .config .panel) (w .chip .regs) (w .chip .config .variant)) (w .lent .old) (w .lent .new)
     (p % w .chip .config .panel .sources) (p / w .chip .config .panel .sources)
 unfolding numbersNow
 noted w s p h =
     let n = w .chip .config .panel .sources in
     let m = w .chip .config .panel .gates in
-    let f = numberOf (pixelsOf (w .chip .config .panel) (w .chip .regs) (w .chip .config .variant)) (w .lent .old) (w .lent .new) in
+    let f = numberOf (mappingOf (w .chip .config .panel) (w .chip .regs) (w .chip .config .variant)) (w .lent .old) (w .lent .new) in
     let some : 0 < n = accepted (w .chip .config) (s .config) .sources-least in
     let row : p / n < m = div-lt-iff-lt-mul {k = n} {x = p} {y = m} some .1 (omega (arith, mul-comm n m)) in
     subst (λ (i : ℕ). getD (rowsFilled f n m (w .lent .numbers)) i 255 ≡ f (p % n) (p / n)) (div-add-mod' p n)
@@ -152,7 +152,7 @@ numbers-known w s =
     (λ i h.
     let n = w .chip .config .panel .sources in
     subst (λ (k : ℕ). isNumber k ≡ true) (sym (noted w s i (subst (λ (k : ℕ). i < k) (numbers-length w s) h)))
-    (number-known (pixelsOf (w .chip .config .panel) (w .chip .regs) (w .chip .config .variant))
+    (number-known (mappingOf (w .chip .config .panel) (w .chip .regs) (w .chip .config .variant))
     (w .lent .old) (w .lent .new) (i % n) (i / n) .ok))
 
 -- the levels of 01 and the period of 30

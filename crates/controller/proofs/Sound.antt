@@ -27,7 +27,7 @@ use Rattle.command.specs.Kinds.{kindOf}
 use Rattle.diagnostic.specs.declared.DiagnosticKind.the-variants.{UnknownCommand, UnsupportedCommand, DataWithoutCommand, ExtraData}
 use Rattle.diagnostic.specs.declared.DiagnosticKind.the-variants.{WrongCheckCode, PastTheWindow, NothingToRead, ResetDuringRefresh}
 use Rattle.glass.specs.Gray.{levelOf}
-use Rattle.log.specs.Log.{takenOf}
+use Rattle.log.specs.Log.{logEmptied}
 use Rattle.pixels.proofs.StateLaws.{states-replicate, level-within}
 use Rattle.controller.specs.declared.Power.{Power}
 use Rattle.controller.specs.declared.Power.the-variants as power
@@ -260,7 +260,7 @@ sound-reset asserted w s = sound-edge asserted w s
 -- ---- taking the rows
 pub sound-take : (w : World) → Sound w → Sound (takeCall w)
 unfolding takeCall
-sound-take w s = both Sound (eqb (takingRefused (w .chip) (w .lent .rows)) 0) (sound-log (takenOf (w .chip .log)) w (omega arith) s) s
+sound-take w s = both Sound (eqb (takingRefused (w .chip) (w .lent .rows)) 0) (sound-log (logEmptied (w .chip .log)) w (omega arith) s) s
 
 -- ---- a sound record is not foreign, and no call on it is turned back
 good-pair : (p : Pair) → InTenBits p → badPair p ≡ false

@@ -19,7 +19,7 @@ use Rattle.waveform.specs.Frames.{blank}
 use Rattle.ram.specs.declared.Found.{Found}
 use Rattle.ram.specs.declared.Found.the-variants as found
 use Rattle.ram.specs.Found.{ramBit}
-use Rattle.log.specs.Log.{takenOf}
+use Rattle.log.specs.Log.{logEmptied}
 use Rattle.controller.specs.declared.Power.the-variants as power
 use Rattle.controller.specs.declared.Work.{Work}
 use Rattle.controller.specs.declared.Work.the-variants as work
@@ -66,7 +66,7 @@ unfoldable pub takingRefused : Uc8253 → List ℕ → ℕ
 takingRefused p rows = lentRefused p (eqb (length rows) 5120)
 
 unfoldable pub takeCall : World → World
-takeCall w = pick (eqb (takingRefused (w .chip) (w .lent .rows)) 0) (onChip (λ p. withLog (takenOf (p .log)) p) w) w
+takeCall w = pick (eqb (takingRefused (w .chip) (w .lent .rows)) 0) (onChip (λ p. withLog (logEmptied (p .log)) p) w) w
 
 unfoldable pub takenRows : Uc8253 → List ℕ → ℕ
 takenRows p rows = pick (eqb (takingRefused p rows) 0) (p .log .stored) 0

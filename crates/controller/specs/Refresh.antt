@@ -20,7 +20,7 @@ use Rattle.waveform.specs.Levels.{levelsOf}
 use Rattle.waveform.specs.Tables.{waveformOf, durationOf}
 use Rattle.waveform.specs.Frames.{framesOf}
 use Rattle.numbers.specs.Filled.{rowsFilled}
-use Rattle.numbers.specs.Number.{pixelsOf, numberOf, someUndriven}
+use Rattle.numbers.specs.Number.{mappingOf, numberOf, someUndriven}
 use Rattle.pixels.specs.Lists.{beside}
 use Rattle.pixels.specs.Drive.{framesFor}
 use Rattle.pixels.specs.Draw.{drawn}
@@ -52,7 +52,7 @@ waveformNow p = waveformOf (p .luts .bytes) (levelsOf (p .regs .power)) (getD (p
 -- each pixel's number, row by row
 unfoldable pub numbersNow : Uc8253 → Buffers → List ℕ
 numbersNow p b =
-    rowsFilled (numberOf (pixelsOf (p .config .panel) (p .regs) (p .config .variant)) (b .old) (b .new))
+    rowsFilled (numberOf (mappingOf (p .config .panel) (p .regs) (p .config .variant)) (b .old) (b .new))
     (p .config .panel .sources) (p .config .panel .gates) (b .numbers)
 
 -- the picture is partial if any number is 255, else full

@@ -6,22 +6,22 @@ use Rattle.diagnostic.specs.declared.DiagnosticKind.{DiagnosticKind}
 use Rattle.diagnostic.specs.declared.DiagnosticKind.the-variants as kind
 
 -- 1 to 15 in the order of `DiagnosticKind`
-abbrev pub kindOf : DiagnosticKind → ℕ
-kindOf (kind.UnknownCommand command) = 1
-kindOf (kind.UnsupportedCommand command) = 2
-kindOf (kind.DataWithoutCommand byte) = 3
-kindOf (kind.ExtraData command) = 4
-kindOf (kind.MissingData command expected received) = 5
-kindOf (kind.WhileBusy command) = 6
-kindOf (kind.WhileAsleep command) = 7
-kindOf (kind.WhileInReset command) = 8
-kindOf (kind.WrongCheckCode code) = 9
-kindOf (kind.PastTheWindow command) = 10
-kindOf (kind.RefreshNotModelled what) = 11
-kindOf kind.RefreshWithoutPower = 12
-kindOf (kind.LutLength command bytes) = 13
-kindOf (kind.NothingToRead command) = 14
-kindOf kind.ResetDuringRefresh = 15
+abbrev pub kindNumber : DiagnosticKind → ℕ
+kindNumber (kind.UnknownCommand command) = 1
+kindNumber (kind.UnsupportedCommand command) = 2
+kindNumber (kind.DataWithoutCommand byte) = 3
+kindNumber (kind.ExtraData command) = 4
+kindNumber (kind.MissingData command expected received) = 5
+kindNumber (kind.WhileBusy command) = 6
+kindNumber (kind.WhileAsleep command) = 7
+kindNumber (kind.WhileInReset command) = 8
+kindNumber (kind.WrongCheckCode code) = 9
+kindNumber (kind.PastTheWindow command) = 10
+kindNumber (kind.RefreshNotModelled what) = 11
+kindNumber kind.RefreshWithoutPower = 12
+kindNumber (kind.LutLength command bytes) = 13
+kindNumber (kind.NothingToRead command) = 14
+kindNumber kind.ResetDuringRefresh = 15
 
 -- its fields, in order
 abbrev pub fieldsOf : DiagnosticKind → List ℕ
@@ -42,5 +42,5 @@ fieldsOf (kind.NothingToRead command) = command ∷ []
 fieldsOf kind.ResetDuringRefresh = []
 
 -- time, kind, then its fields, zeros after
-abbrev pub rowOf : ℕ → DiagnosticKind → List ℕ
-rowOf at k = at ∷ kindOf k ∷ getD (fieldsOf k) 0 0 ∷ getD (fieldsOf k) 1 0 ∷ getD (fieldsOf k) 2 0 ∷ []
+abbrev pub rowNumbers : ℕ → DiagnosticKind → List ℕ
+rowNumbers at k = at ∷ kindNumber k ∷ getD (fieldsOf k) 0 0 ∷ getD (fieldsOf k) 1 0 ∷ getD (fieldsOf k) 2 0 ∷ []

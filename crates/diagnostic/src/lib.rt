@@ -1,7 +1,7 @@
 // What the controller reports (diagnostic.rs): a firmware's use of the chip that the datasheet does
 // not allow, leaves undefined, or the model does not carry out; and the five numbers stored of it.
 ghost use mathlib.Core.Path.{_≡_};
-ghost use Rattle.diagnostic.specs.Row.{rowOf};
+ghost use Rattle.diagnostic.specs.Row.{rowNumbers};
 
 // The rows kept until they are taken; past them they are counted, not kept.
 pub const MAX_DIAGNOSTICS: usize = 1024;
@@ -87,7 +87,7 @@ pub enum DiagnosticKind {
 
 // The five numbers of a stored row: time, kind, then its fields, zeros after.
 pub fn row(at: u64, kind: DiagnosticKind) -> [u64; ROW]
-    ensures { λ r. ⌜ r ≡ rowOf at kind ⌝ }
+    ensures { λ r. ⌜ r ≡ rowNumbers at kind ⌝ }
 {
     match kind {
         DiagnosticKind::UnknownCommand { command } => [at, 1, command as u64, 0, 0],

@@ -12,7 +12,7 @@ use Rattle.base.proofs.Turns.{turns-join, turns-same, turns-keep}
 use Rattle.controller.specs.World.{World}
 use Rattle.events.specs.declared.Event.{Event}
 use Rattle.events.specs.Events.{eventsIn, eventAt, eventDone, eventRefused, eventAnswer, ranTo, answersTo, earlier, refusedIn}
-use Rattle.events.specs.Stretch.{ranOn, answersOn, refusedOn, Stretch, marked, Goes}
+use Rattle.events.specs.InnerStretch.{ranOn, answersOn, refusedOn, Stretch, marked, Goes}
 use Rattle.events.proofs.Going.{Going}
 
 pub marked-length : (i k : ℕ) (answers : List ℕ) → length (marked i k answers) ≡ length answers

@@ -44,8 +44,8 @@ use Rattle.events.specs.declared.streams.Change.{Change}
 use Rattle.events.specs.declared.streams.Flowed.{Flowed}
 use Rattle.events.specs.Events.{eventsIn, eventAt, eventDone, eventRefused, eventAnswer}
 use Rattle.events.proofs.EventLaws.{Does, does-data}
-use Rattle.events.specs.Stretch.{ranOn, Stretch, putAt, onFrom, cursorTo, countTo, clockTo, planeTo, flowsBy, AllFlow}
-use Rattle.events.specs.Stretch.{Flows, flowedChip, FlowsInto, restsBy, calmWith, endlessBy, pixelsBy, Aimed}
+use Rattle.events.specs.InnerStretch.{ranOn, Stretch, putAt, onFrom, cursorTo, countTo, clockTo, planeTo, flowsBy, AllFlow}
+use Rattle.events.specs.InnerStretch.{Flows, flowedChip, FlowsInto, restsBy, calmWith, endlessBy, pixelsBy, Aimed}
 
 -- ---- tests that fail
 neither : (x y : Bool) → (x || y) ≡ false → (x ≡ false) × (y ≡ false)

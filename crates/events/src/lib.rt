@@ -24,7 +24,7 @@ ghost use Rattle.controller.specs.Lent.{before, after, Gives, Done};
 ghost use Prim.Native.Nat.{_+_, _*_, _^_, _<_};
 ghost use lib.ListN.{set};
 ghost use Rattle.events.specs.Events as rule;
-ghost use Rattle.events.specs.Stretch as stretch;
+ghost use Rattle.events.specs.InnerStretch as stretch;
 use base::Refusal;
 use bytes::byte_at;
 use capture::little;

@@ -5,7 +5,7 @@ ghost use Prim.Native.Nat.{_≤_};
 ghost use Rattle.controller.specs.World.{world};
 ghost use Rattle.controller.specs.Lent.{before, after};
 ghost use Rattle.events.specs.Events.{eventsIn};
-ghost use Rattle.events.specs.Stretch as rule;
+ghost use Rattle.events.specs.InnerStretch as rule;
 use crate::DATA;
 use crate::EVENT_BYTES;
 use crate::event_at;

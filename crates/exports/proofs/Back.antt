@@ -17,43 +17,43 @@ use Rattle.controller.specs.declared.Refresh.{Refresh}
 use Rattle.controller.specs.declared.Uc8253.{Uc8253}
 use Rattle.controller.specs.declared.Work.{Work}
 use Rattle.controller.specs.declared.Work.the-variants as works
-use Rattle.exports.specs.Taken.{variantOf, powerOf, paramsOf, kindOf, currentOf, refreshKindOf, workOf, activeOf, takenOf}
+use Rattle.exports.specs.Taken.{variantTaken, powerTaken, paramsTaken, kindTaken, currentTaken, refreshKindTaken, workTaken, activeTaken, recordTaken}
 use Rattle.exports.specs.Handed.{variantNumber, powerNumber, refreshNumber, paramsNumbers}
 use Rattle.exports.specs.Handed.{kindNumbers, activeNumbers, currentNumbers, workNumbers, handedOf}
 
-variant-back : (v : Variant) → variantOf (variantNumber v) ≡ v
-unfolding variantOf
+variant-back : (v : Variant) → variantTaken (variantNumber v) ≡ v
+unfolding variantTaken
 variant-back variants.Uc8253 = refl
 variant-back variants.Uc8279d = refl
 
-power-back : (p : Power) → powerOf (powerNumber p) ≡ p
-unfolding powerOf
+power-back : (p : Power) → powerTaken (powerNumber p) ≡ p
+unfolding powerTaken
 power-back powers.Running = refl
 power-back powers.Asleep = refl
 power-back powers.InReset = refl
 
-refresh-kind-back : (k : RefreshKind) → refreshKindOf (refreshNumber k) ≡ k
-unfolding refreshKindOf
+refresh-kind-back : (k : RefreshKind) → refreshKindTaken (refreshNumber k) ≡ k
+unfolding refreshKindTaken
 refresh-kind-back shown.PowerOn = refl
 refresh-kind-back shown.Full = refl
 refresh-kind-back shown.Partial = refl
 
-params-back : (p : Params) → paramsOf (paramsNumbers p .params) (paramsNumbers p .least) (paramsNumbers p .most) ≡ p
-unfolding paramsOf
+params-back : (p : Params) → paramsTaken (paramsNumbers p .params) (paramsNumbers p .least) (paramsNumbers p .most) ≡ p
+unfolding paramsTaken
 params-back (bytes.Exactly n) = refl
 params-back (bytes.Between least most) = refl
 params-back bytes.Stream = refl
 
 kind-back : (k : Kind)
-    → kindOf (kindNumbers k .kind) (paramsOf (kindNumbers k .params .params) (kindNumbers k .params .least) (kindNumbers k .params .most))
+    → kindTaken (kindNumbers k .kind) (paramsTaken (kindNumbers k .params .params) (kindNumbers k .params .least) (kindNumbers k .params .most))
     ≡ k
-unfolding kindOf
+unfolding kindTaken
 kind-back (kinds.Write p) = ap (λ (q : Params). kinds.Write q) (params-back p)
 kind-back kinds.Read = refl
 kind-back (kinds.Unsupported p) = ap (λ (q : Params). kinds.Unsupported q) (params-back p)
 kind-back kinds.Unknown = refl
 
-active-back : (a : Active) → activeOf (activeNumbers a) ≡ a
+active-back : (a : Active) → activeTaken (activeNumbers a) ≡ a
 active-back a =
     ap (λ (k : Kind). record {
       command = a .command;
@@ -65,15 +65,15 @@ active-back a =
       «past_reported» = a .«past_reported»;
     }) (kind-back (a .kind))
 
-current-back : (c : Current) → currentOf (currentNumbers c .current) (activeOf (currentNumbers c .active)) ≡ c
-unfolding currentOf
+current-back : (c : Current) → currentTaken (currentNumbers c .current) (activeTaken (currentNumbers c .active)) ≡ c
+unfolding currentTaken
 current-back currents.Idle = refl
 current-back currents.Ignoring = refl
 current-back (currents.Active a) = ap (λ (b : Active). currents.Active b) (active-back a)
 
 work-back : (w : Work)
-    → workOf (workNumbers w .work) (record { area = workNumbers w .area; kind = refreshKindOf (workNumbers w .kind) }) ≡ w
-unfolding workOf
+    → workTaken (workNumbers w .work) (record { area = workNumbers w .area; kind = refreshKindTaken (workNumbers w .kind) }) ≡ w
+unfolding workTaken
 work-back works.Nothing = refl
 work-back works.PowerOn = refl
 work-back works.PowerOff = refl
@@ -82,8 +82,8 @@ work-back works.SoftReset = refl
 work-back works.HardwareReset = refl
 work-back (works.Refresh r) = ap (λ (k : RefreshKind). works.Refresh (record { area = r .area; kind = k })) (refresh-kind-back (r .kind))
 
-pub back : (p : Uc8253) → takenOf (handedOf p) ≡ p
-unfolding takenOf handedOf
+pub back : (p : Uc8253) → recordTaken (handedOf p) ≡ p
+unfolding recordTaken handedOf
 back p = λ i. record {
   config = record { variant = variant-back (p .config .variant) i; panel = p .config .panel; optics = p .config .optics; timing = p .config .timing; «ambient_celsius» = p .config .«ambient_celsius» };
   regs = p .regs;

@@ -13,16 +13,16 @@ use Rattle.events.specs.Events.{ran, refused}
 use Rattle.exports.specs.declared.handed.Handed.{Handed}
 use Rattle.exports.specs.declared.Given.{Given}
 use Rattle.exports.specs.declared.Asked.{Asked}
-use Rattle.exports.specs.Taken.{takenOf}
+use Rattle.exports.specs.Taken.{recordTaken}
 use Rattle.exports.specs.Handed.{handedOf}
 use Rattle.exports.specs.Given.{givenOf, answerNumber, given, turnsAllBack, ranGiven, askedOf, asked}
 
 -- a function of the world that was taken
 pub of-taken : {A : Type 0} {x : A} (f : World → A) (p : Uc8253) (h : Handed) (b : Buffers)
-    → p ≡ takenOf h → x ≡ f (world p b) → x ≡ f (world (takenOf h) b)
+    → p ≡ recordTaken h → x ≡ f (world p b) → x ≡ f (world (recordTaken h) b)
 of-taken f p h b e q = q ∙ ap (λ (s : Uc8253). f (world s b)) e
 
-module _ (a : Ask) (h : Handed) (p : Uc8253) (b : Buffers) (e : p ≡ takenOf h) where
+module _ (a : Ask) (h : Handed) (p : Uc8253) (b : Buffers) (e : p ≡ recordTaken h) where
   -- a call: what it gives, and what is lent after it
   pub given-is : {g : Given} {v : World} {n m : ℕ} → g ≡ givenOf h (v .chip) n m
       → v ≡ did a (world p b) → n ≡ refusedBy a (world p b) → m ≡ answerNumber (answered a (world p b)) → g ≡ given a h b
@@ -34,7 +34,7 @@ module _ (a : Ask) (h : Handed) (p : Uc8253) (b : Buffers) (e : p ≡ takenOf h)
 
   pub passed : {g : Given} {q : Uc8253} {b′ : Buffers} {n m : ℕ} → g ≡ givenOf h q n m
       → world q b′ ≡ did a (world p b) → n ≡ refusedBy a (world p b) → m ≡ answerNumber (answered a (world p b))
-      → (g ≡ given a h b) × (b′ ≡ did a (world (takenOf h) b) .lent)
+      → (g ≡ given a h b) × (b′ ≡ did a (world (recordTaken h) b) .lent)
   passed r w k l = (given-is r w k l, ap (λ (v : World). v .lent) (of-taken (did a) p h b e w))
 
   -- a question
@@ -46,18 +46,18 @@ module _ (a : Ask) (h : Handed) (p : Uc8253) (b : Buffers) (e : p ≡ takenOf h)
       r ∙ (λ i. askedOf (k′ i) (l′ i))
 
 -- a run of events: every event turned back from the start, or not
-module _ (events : List ℕ) (h : Handed) (p : Uc8253) (b : Buffers) (e : p ≡ takenOf h) where
+module _ (events : List ℕ) (h : Handed) (p : Uc8253) (b : Buffers) (e : p ≡ recordTaken h) where
   pub ran-kept : {n : ℕ} → turnsAllBack p b ≡ true → n ≡ refused events (world p b)
       → _≡_ {A = Given} (record { chip = h; refused = n; answer = 257 }) (ranGiven events h b)
   ran-kept t k =
-      let s : turnsAllBack (takenOf h) b ≡ true = ap (λ (q : Uc8253). turnsAllBack q b) (sym e) ∙ t in
+      let s : turnsAllBack (recordTaken h) b ≡ true = ap (λ (q : Uc8253). turnsAllBack q b) (sym e) ∙ t in
       rw s (λ i. record { chip = h; refused = of-taken (refused events) p h b e k i; answer = 257 })
 
   pub ran-on : {n : ℕ} {x : Handed} {v : World} → turnsAllBack p b ≡ false → n ≡ refused events (world p b)
       → x ≡ handedOf (v .chip) → v ≡ ran events (world p b)
       → _≡_ {A = Given} (record { chip = x; refused = n; answer = 257 }) (ranGiven events h b)
   ran-on t k c w =
-      let s : turnsAllBack (takenOf h) b ≡ false = ap (λ (q : Uc8253). turnsAllBack q b) (sym e) ∙ t in
+      let s : turnsAllBack (recordTaken h) b ≡ false = ap (λ (q : Uc8253). turnsAllBack q b) (sym e) ∙ t in
       let g = c ∙ ap (λ (u : World). handedOf (u .chip)) (of-taken (ran events) p h b e w) in
       rw s (λ i. record { chip = g i; refused = of-taken (refused events) p h b e k i; answer = 257 })
 

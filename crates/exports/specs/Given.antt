@@ -19,7 +19,7 @@ use Rattle.exports.specs.declared.Given.{Given}
 use Rattle.exports.specs.declared.Asked.{Asked}
 use Rattle.exports.specs.declared.handed.Handed.{Handed}
 use Rattle.exports.specs.Handed.{handedOf}
-use Rattle.exports.specs.Taken.{takenOf}
+use Rattle.exports.specs.Taken.{recordTaken}
 
 -- after a call: the record that was handed in where the call was turned back, else the numbers of the record after it
 abbrev pub givenOf : Handed → Uc8253 → ℕ → ℕ → Given
@@ -38,13 +38,13 @@ answerNumber (part l) = 257
 -- a call on the record of the numbers, with what is lent
 abbrev pub given : Ask → Handed → Buffers → Given
 given a h b =
-    let w = world (takenOf h) b in
+    let w = world (recordTaken h) b in
     givenOf h (did a w .chip) (refusedBy a w) (answerNumber (answered a w))
 
 abbrev pub Passes : Ask → Handed → Given → Over (Type 0)
 Passes a h g old new states numbers picture rows =
     let b = before old new states numbers picture rows in
-    (g ≡ given a h b) × (after old new states numbers picture rows ≡ did a (world (takenOf h) b) .lent)
+    (g ≡ given a h b) × (after old new states numbers picture rows ≡ did a (world (recordTaken h) b) .lent)
 
 -- a making: the numbers of the record that it gives, of zeros where it is refused
 abbrev pub madeGiven : Uc8253Config → Buffers → Given
@@ -57,9 +57,9 @@ turnsAllBack p b = foreignRecord p || not (lentFits (p .config) b)
 
 abbrev pub ranGiven : List ℕ → Handed → Buffers → Given
 ranGiven events h b =
-    let w = world (takenOf h) b in
+    let w = world (recordTaken h) b in
     record {
-      chip = pick (turnsAllBack (takenOf h) b) h (handedOf (runs.ran events w .chip));
+      chip = pick (turnsAllBack (recordTaken h) b) h (handedOf (runs.ran events w .chip));
       refused = runs.refused events w;
       answer = 257;
     }
@@ -79,5 +79,5 @@ askedOf n (part l) = record { value = 0; refused = n; known = false }
 -- a question about the record of the numbers, with what is lent
 abbrev pub asked : Ask → Handed → Buffers → Asked
 asked a h b =
-    let w = world (takenOf h) b in
+    let w = world (recordTaken h) b in
     askedOf (refusedBy a w) (answered a w)

@@ -30,27 +30,27 @@ use Rattle.exports.specs.declared.handed.HandedOperation.{HandedOperatio
 use Rattle.exports.specs.declared.handed.HandedImage.{HandedImage}
 use Rattle.exports.specs.declared.handed.Handed.{Handed}
 
-unfoldable pub variantOf : ℕ → Variant
-variantOf n = pick (eqb n 0) variants.Uc8253 variants.Uc8279d
+unfoldable pub variantTaken : ℕ → Variant
+variantTaken n = pick (eqb n 0) variants.Uc8253 variants.Uc8279d
 
-unfoldable pub powerOf : ℕ → Power
-powerOf n = pick (eqb n 0) powers.Running (pick (eqb n 1) powers.Asleep powers.InReset)
+unfoldable pub powerTaken : ℕ → Power
+powerTaken n = pick (eqb n 0) powers.Running (pick (eqb n 1) powers.Asleep powers.InReset)
 
-unfoldable pub paramsOf : ℕ → ℕ → ℕ → Params
-paramsOf n least most = pick (eqb n 0) (bytes.Exactly least) (pick (eqb n 1) (bytes.Between least most) bytes.Stream)
+unfoldable pub paramsTaken : ℕ → ℕ → ℕ → Params
+paramsTaken n least most = pick (eqb n 0) (bytes.Exactly least) (pick (eqb n 1) (bytes.Between least most) bytes.Stream)
 
-unfoldable pub kindOf : ℕ → Params → Kind
-kindOf n p = pick (eqb n 0) (kinds.Write p) (pick (eqb n 1) kinds.Read (pick (eqb n 2) (kinds.Unsupported p) kinds.Unknown))
+unfoldable pub kindTaken : ℕ → Params → Kind
+kindTaken n p = pick (eqb n 0) (kinds.Write p) (pick (eqb n 1) kinds.Read (pick (eqb n 2) (kinds.Unsupported p) kinds.Unknown))
 
-unfoldable pub currentOf : ℕ → Active → Current
-currentOf n a = pick (eqb n 0) currents.Idle (pick (eqb n 1) currents.Ignoring (currents.Active a))
+unfoldable pub currentTaken : ℕ → Active → Current
+currentTaken n a = pick (eqb n 0) currents.Idle (pick (eqb n 1) currents.Ignoring (currents.Active a))
 
 -- of a refresh and of a picture
-unfoldable pub refreshKindOf : ℕ → RefreshKind
-refreshKindOf n = pick (eqb n 0) shown.PowerOn (pick (eqb n 1) shown.Full shown.Partial)
+unfoldable pub refreshKindTaken : ℕ → RefreshKind
+refreshKindTaken n = pick (eqb n 0) shown.PowerOn (pick (eqb n 1) shown.Full shown.Partial)
 
-unfoldable pub workOf : ℕ → Refresh → Work
-workOf n r =
+unfoldable pub workTaken : ℕ → Refresh → Work
+workTaken n r =
     pick (eqb n 0) works.Nothing
     (pick (eqb n 1) works.PowerOn
     (pick (eqb n 2) works.PowerOff
@@ -59,10 +59,10 @@ workOf n r =
     (pick (eqb n 5) works.HardwareReset
     (works.Refresh r))))))
 
-abbrev pub activeOf : HandedActive → Active
-activeOf h = record {
+abbrev pub activeTaken : HandedActive → Active
+activeTaken h = record {
   command = h .command;
-  kind = kindOf (h .kind) (paramsOf (h .params) (h .least) (h .most));
+  kind = kindTaken (h .kind) (paramsTaken (h .params) (h .least) (h .most));
   received = h .received;
   read = h .read;
   cursor = h .cursor;
@@ -70,50 +70,50 @@ activeOf h = record {
   «past_reported» = h .«past_reported»;
 }
 
-abbrev pub operationOf : HandedOperation → Operation
-operationOf h = record {
-  work = workOf (h .work) (record { area = h .area; kind = refreshKindOf (h .kind) });
+abbrev pub operationTaken : HandedOperation → Operation
+operationTaken h = record {
+  work = workTaken (h .work) (record { area = h .area; kind = refreshKindTaken (h .kind) });
   started = h .started;
   until = h .until;
 }
 
-abbrev pub imageOf : HandedImage → PanelImage
-imageOf h = record {
+abbrev pub imageTaken : HandedImage → PanelImage
+imageTaken h = record {
   width = h .width;
   height = h .height;
   generation = h .generation;
-  kind = refreshKindOf (h .kind);
+  kind = refreshKindTaken (h .kind);
   interrupted = h .interrupted;
   started = h .started;
   at = h .at;
 }
 
-abbrev pub configOf : Handed → Uc8253Config
-configOf h = record {
-  variant = variantOf (h .variant);
+abbrev pub configTaken : Handed → Uc8253Config
+configTaken h = record {
+  variant = variantTaken (h .variant);
   panel = h .panel;
   optics = h .optics;
   timing = h .timing;
   «ambient_celsius» = h .ambient;
 }
 
-abbrev pub modeOf : Handed → Mode
-modeOf h = record { power = powerOf (h .power); powered = h .powered; «data_flag» = h .«data_flag» }
+abbrev pub modeTaken : Handed → Mode
+modeTaken h = record { power = powerTaken (h .power); powered = h .powered; «data_flag» = h .«data_flag» }
 
-abbrev pub stageOf : Handed → Stage
-stageOf h = record { current = currentOf (h .current) (activeOf (h .active)) }
+abbrev pub stageTaken : Handed → Stage
+stageTaken h = record { current = currentTaken (h .current) (activeTaken (h .active)) }
 
 -- the controller's record
-unfoldable pub takenOf : Handed → Uc8253
-takenOf h = record {
-  config = configOf h;
+unfoldable pub recordTaken : Handed → Uc8253
+recordTaken h = record {
+  config = configTaken h;
   regs = h .regs;
   luts = h .luts;
-  mode = modeOf h;
-  stage = stageOf h;
-  operation = operationOf (h .operation);
+  mode = modeTaken h;
+  stage = stageTaken h;
+  operation = operationTaken (h .operation);
   waveform = h .waveform;
-  image = imageOf (h .image);
+  image = imageTaken (h .image);
   log = h .log;
   now = h .now;
 }

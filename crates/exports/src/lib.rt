@@ -19,7 +19,7 @@ ghost use Rattle.controller.specs.Calls.{made};
 ghost use Rattle.controller.specs.Ask as ask;
 ghost use Rattle.controller.specs.Lent.{before, after};
 ghost use Rattle.events.specs.Events as runs;
-ghost use Rattle.exports.specs.Taken.{takenOf};
+ghost use Rattle.exports.specs.Taken.{recordTaken};
 ghost use Rattle.exports.specs.Given as rule;
 use base::Refusal;
 use capture::config;
@@ -268,9 +268,9 @@ pub extern "C" fn jollanqe_run(
 ) -> Given
     ensures { λ r. ⌜ r ≡ rule.ranGiven (now (events .entry)) chip (before old new states numbers picture rows) ⌝ }
     ensures { λ r. ⌜ after old new states numbers picture rows
-        ≡ runs.ran (now (events .entry)) (world (takenOf chip) (before old new states numbers picture rows)) .lent ⌝ }
+        ≡ runs.ran (now (events .entry)) (world (recordTaken chip) (before old new states numbers picture rows)) .lent ⌝ }
     ensures { λ r. ⌜ now (answers .exit) ≡ runs.answers (now (events .entry)) (now (answers .entry))
-        (world (takenOf chip) (before old new states numbers picture rows)) ⌝ }
+        (world (recordTaken chip) (before old new states numbers picture rows)) ⌝ }
 {
     let p = taken(chip);
     let kept = turns_all_back(p, old, new, states, numbers, picture, rows);

@@ -23,7 +23,7 @@ use glass::PanelImage;
 use glass::RefreshKind;
 
 fn variant_of(n: u8) -> Variant
-    ensures { λ r. ⌜ r ≡ rule.variantOf n ⌝ }
+    ensures { λ r. ⌜ r ≡ rule.variantTaken n ⌝ }
 {
     match n {
         0 => Variant::Uc8253,
@@ -32,7 +32,7 @@ fn variant_of(n: u8) -> Variant
 }
 
 fn power_of(n: u8) -> Power
-    ensures { λ r. ⌜ r ≡ rule.powerOf n ⌝ }
+    ensures { λ r. ⌜ r ≡ rule.powerTaken n ⌝ }
 {
     match n {
         0 => Power::Running,
@@ -42,7 +42,7 @@ fn power_of(n: u8) -> Power
 }
 
 fn params_of(n: u8, least: u16, most: u16) -> Params
-    ensures { λ r. ⌜ r ≡ rule.paramsOf n least most ⌝ }
+    ensures { λ r. ⌜ r ≡ rule.paramsTaken n least most ⌝ }
 {
     match n {
         0 => Params::Exactly(least),
@@ -52,7 +52,7 @@ fn params_of(n: u8, least: u16, most: u16) -> Params
 }
 
 fn kind_of(n: u8, params: Params) -> Kind
-    ensures { λ r. ⌜ r ≡ rule.kindOf n params ⌝ }
+    ensures { λ r. ⌜ r ≡ rule.kindTaken n params ⌝ }
 {
     match n {
         0 => Kind::Write(params),
@@ -63,7 +63,7 @@ fn kind_of(n: u8, params: Params) -> Kind
 }
 
 fn active_of(h: HandedActive) -> Active
-    ensures { λ r. ⌜ r ≡ rule.activeOf h ⌝ }
+    ensures { λ r. ⌜ r ≡ rule.activeTaken h ⌝ }
 {
     let params = params_of(h.params, h.least, h.most);
     let kind = kind_of(h.kind, params);
@@ -80,7 +80,7 @@ fn active_of(h: HandedActive) -> Active
 }
 
 fn current_of(n: u8, active: Active) -> Current
-    ensures { λ r. ⌜ r ≡ rule.currentOf n active ⌝ }
+    ensures { λ r. ⌜ r ≡ rule.currentTaken n active ⌝ }
 {
     match n {
         0 => Current::Idle,
@@ -90,7 +90,7 @@ fn current_of(n: u8, active: Active) -> Current
 }
 
 fn refresh_kind_of(n: u8) -> RefreshKind
-    ensures { λ r. ⌜ r ≡ rule.refreshKindOf n ⌝ }
+    ensures { λ r. ⌜ r ≡ rule.refreshKindTaken n ⌝ }
 {
     match n {
         0 => RefreshKind::PowerOn,
@@ -100,7 +100,7 @@ fn refresh_kind_of(n: u8) -> RefreshKind
 }
 
 fn work_of(n: u8, refresh: Refresh) -> Work
-    ensures { λ r. ⌜ r ≡ rule.workOf n refresh ⌝ }
+    ensures { λ r. ⌜ r ≡ rule.workTaken n refresh ⌝ }
 {
     match n {
         0 => Work::Nothing,
@@ -114,7 +114,7 @@ fn work_of(n: u8, refresh: Refresh) -> Work
 }
 
 fn operation_of(h: HandedOperation) -> Operation
-    ensures { λ r. ⌜ r ≡ rule.operationOf h ⌝ }
+    ensures { λ r. ⌜ r ≡ rule.operationTaken h ⌝ }
 {
     let area = h.area;
     let kind = refresh_kind_of(h.kind);
@@ -128,7 +128,7 @@ fn operation_of(h: HandedOperation) -> Operation
 }
 
 fn image_of(h: HandedImage) -> PanelImage
-    ensures { λ r. ⌜ r ≡ rule.imageOf h ⌝ }
+    ensures { λ r. ⌜ r ≡ rule.imageTaken h ⌝ }
 {
     let kind = refresh_kind_of(h.kind);
     PanelImage {
@@ -143,7 +143,7 @@ fn image_of(h: HandedImage) -> PanelImage
 }
 
 fn config_of(h: Handed) -> Uc8253Config
-    ensures { λ r. ⌜ r ≡ rule.configOf h ⌝ }
+    ensures { λ r. ⌜ r ≡ rule.configTaken h ⌝ }
 {
     let variant = variant_of(h.variant);
     let panel = h.panel;
@@ -159,7 +159,7 @@ fn config_of(h: Handed) -> Uc8253Config
 }
 
 fn mode_of(h: Handed) -> Mode
-    ensures { λ r. ⌜ r ≡ rule.modeOf h ⌝ }
+    ensures { λ r. ⌜ r ≡ rule.modeTaken h ⌝ }
 {
     let power = power_of(h.power);
     Mode {
@@ -170,7 +170,7 @@ fn mode_of(h: Handed) -> Mode
 }
 
 fn stage_of(h: Handed) -> Stage
-    ensures { λ r. ⌜ r ≡ rule.stageOf h ⌝ }
+    ensures { λ r. ⌜ r ≡ rule.stageTaken h ⌝ }
 {
     let handed_active = h.active;
     let active = active_of(handed_active);
@@ -180,7 +180,7 @@ fn stage_of(h: Handed) -> Stage
 
 // The controller's record, of the numbers.
 pub(crate) fn taken(h: Handed) -> Uc8253
-    ensures { λ r. ⌜ r ≡ rule.takenOf h ⌝ }
+    ensures { λ r. ⌜ r ≡ rule.recordTaken h ⌝ }
 {
     let config = config_of(h);
     let regs = h.regs;

@@ -9,7 +9,7 @@ use lib.Pow.{pow-mono}
 use lib.Arith.{digits-div}
 use Rattle.glass.specs.declared.Sum.{Sum}
 use Rattle.glass.specs.Gray.{levelOf, grayOf, leastOf}
-use Rattle.glass.specs.Division.{Carried}
+use Rattle.glass.specs.InnerDivision.{Carried}
 
 -- ---- the level by a split quotient
 pub level-split : (g s : ℕ) → s / 255 * g + s % 255 * g / 255 ≡ levelOf g s

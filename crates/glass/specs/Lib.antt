@@ -2,4 +2,4 @@ pub mod Walk
 pub mod Gray
 pub mod Optics
 pub mod Transfer
-pub mod Division
+pub mod InnerDivision

@@ -7,7 +7,7 @@ ghost use mathlib.Core.Path.{_≡_};
 ghost use Prim.Native.Nat.{_≤_, _<_, _+_, _-_, _*_, min};
 ghost use Rattle.base.specs.Word.{top};
 ghost use Rattle.glass.specs.Gray.{levelOf, grayOf};
-ghost use Rattle.glass.specs.Division.{Carried};
+ghost use Rattle.glass.specs.InnerDivision.{Carried};
 ghost use Rattle.glass.specs.Transfer.{act, identityOf, shiftOf, thenOf};
 ghost use Rattle.glass.specs.Optics.{x3};
 use base::TOP;

@@ -10,7 +10,7 @@ use lib.Seq.{getD-set-other, sets, sets-eq, getD-append-add, length-take-le}
 use borrow.Author.Tests.{lt-ltb, le-ltb}
 use Rattle.base.specs.Word.{top}
 use Rattle.diagnostic.specs.declared.DiagnosticKind.{DiagnosticKind}
-use Rattle.diagnostic.specs.Row.{rowOf}
+use Rattle.diagnostic.specs.Row.{rowNumbers}
 use Rattle.log.specs.declared.Log.{Log}
 use Rattle.log.specs.Log.{reported, rowsAfter, putRow, Report, allReported, rowsAfterAll}
 
@@ -24,7 +24,7 @@ unfolding reported
 reported-full g h = rw (le-ltb (g .stored) 1024 h)
 
 pub rows-room : (g : Log) (at : ℕ) (k : DiagnosticKind) (l : List ℕ) → g .stored < 1024
-    → rowsAfter g at k l ≡ putRow l (5 * g .stored) (rowOf at k)
+    → rowsAfter g at k l ≡ putRow l (5 * g .stored) (rowNumbers at k)
 unfolding rowsAfter
 rows-room g at k l h = rw (lt-ltb (g .stored) 1024 h)
 
@@ -53,8 +53,8 @@ put-stores l i a b c d e =
 
 -- a row in the buffer stands between what was before it and what was after it
 pub put-whole : (l : List ℕ) (i at : ℕ) (k : DiagnosticKind) → i + 5 ≤ length l
-    → putRow l i (rowOf at k) ≡ take i l ++ rowOf at k ++ drop (i + 5) l
-put-whole l i at k h = put-stores l i _ _ _ _ _ ∙ sets-eq (rowOf at k) l i h
+    → putRow l i (rowNumbers at k) ≡ take i l ++ rowNumbers at k ++ drop (i + 5) l
+put-whole l i at k h = put-stores l i _ _ _ _ _ ∙ sets-eq (rowNumbers at k) l i h
 
 put-others : (l r : List ℕ) (i n : ℕ) → (n ≡ i → ⊥) → (n ≡ i + 1 → ⊥) → (n ≡ i + 2 → ⊥) → (n ≡ i + 3 → ⊥) → (n ≡ i + 4 → ⊥)
     → getD (putRow l i r) n 0 ≡ getD l n 0
@@ -62,14 +62,14 @@ put-others l r i n p q s t u = rw (getD-set-other, getD-set-other, getD-set-othe
 
 -- the row that was stored reads back as its five numbers
 pub row-stored : (g : Log) (at : ℕ) (k : DiagnosticKind) (l : List ℕ) → length l ≡ 5120 → g .stored < 1024 → (j : ℕ) → j < 5 →
-    getD (rowsAfter g at k l) (5 * g .stored + j) 0 ≡ getD (rowOf at k) j 0
+    getD (rowsAfter g at k l) (5 * g .stored + j) 0 ≡ getD (rowNumbers at k) j 0
 row-stored g at k l e h j b =
     let front : length (take (5 * g .stored) l) ≡ 5 * g .stored = length-take-le (5 * g .stored) l (omega arith) in
     ap (λ (m : List ℕ). getD m (5 * g .stored + j) 0) (rows-room g at k l h ∙ put-whole l (5 * g .stored) at k (omega arith))
-    ∙ List·getD-append (take (5 * g .stored) l ++ rowOf at k) (drop (5 * g .stored + 5) l) 0
+    ∙ List·getD-append (take (5 * g .stored) l ++ rowNumbers at k) (drop (5 * g .stored + 5) l) 0
     (5 * g .stored + j) (simp length-append (omega arith))
-    ∙ ap (λ (n : ℕ). getD (take (5 * g .stored) l ++ rowOf at k) (n + j) 0) (sym front)
-    ∙ getD-append-add (take (5 * g .stored) l) (rowOf at k) j 0
+    ∙ ap (λ (n : ℕ). getD (take (5 * g .stored) l ++ rowNumbers at k) (n + j) 0) (sym front)
+    ∙ getD-append-add (take (5 * g .stored) l) (rowNumbers at k) j 0
 
 -- and no entry of another row changes
 pub row-others : (g : Log) (at : ℕ) (k : DiagnosticKind) (l : List ℕ) (n : ℕ) → (n / 5 ≡ g .stored → ⊥)
@@ -77,7 +77,7 @@ pub row-others : (g : Log) (at : ℕ) (k : DiagnosticKind) (l : List ℕ) (n : �
 row-others g at k l n b = elim (decLe 1024 (g .stored)) [
   | yes h ↦ ap (λ (m : List ℕ). getD m n 0) (rows-full g at k l h)
   | no h ↦ ap (λ (m : List ℕ). getD m n 0) (rows-room g at k l (omega arith))
-      ∙ put-others l (rowOf at k) (5 * g .stored) n (λ e. b (omega arith)) (λ e. b (omega arith)) (λ e. b (omega arith))
+      ∙ put-others l (rowNumbers at k) (5 * g .stored) n (λ e. b (omega arith)) (λ e. b (omega arith)) (λ e. b (omega arith))
       (λ e. b (omega arith)) (λ e. b (omega arith))
 ]
 
@@ -96,7 +96,7 @@ rows-stay g (r ∷ rs) l n h =
 
 pub row-read-back : (g : Log) (rs : List Report) (l : List ℕ) → length l ≡ 5120 → g .stored + length rs ≤ 1024
     → (i j : ℕ) → i < length rs → j < 5 → (d : Report)
-    → getD (rowsAfterAll g rs l) (5 * (g .stored + i) + j) 0 ≡ getD (rowOf (getD rs i d .at) (getD rs i d .kind)) j 0
+    → getD (rowsAfterAll g rs l) (5 * (g .stored + i) + j) 0 ≡ getD (rowNumbers (getD rs i d .at) (getD rs i d .kind)) j 0
 row-read-back g [] l e h i j p q d = absurd (not-suc-le-zero p)
 row-read-back g (r ∷ rs) l e h zero j p q d =
     ap (λ (n : ℕ). getD (rowsAfterAll g (r ∷ rs) l) (5 * n + j) 0) {y = g .stored} (omega arith)

@@ -6,7 +6,7 @@ use lib.ListN.{getD, set}
 use Rattle.base.specs.Word.{top}
 use Rattle.base.specs.Pick.{pick}
 use Rattle.diagnostic.specs.declared.DiagnosticKind.{DiagnosticKind}
-use Rattle.diagnostic.specs.Row.{rowOf}
+use Rattle.diagnostic.specs.Row.{rowNumbers}
 use Rattle.log.specs.declared.Log.{Log}
 
 -- one more is stored; row 1,025 is not stored and the dropped count grows, held at 2^64 - 1
@@ -23,11 +23,11 @@ putRow l i r =
 
 -- the buffer after a report: the row that is stored begins at five times the rows before it
 unfoldable pub rowsAfter : Log → ℕ → DiagnosticKind → List ℕ → List ℕ
-rowsAfter g at k l = pick (ltb (g .stored) 1024) (putRow l (5 * g .stored) (rowOf at k)) l
+rowsAfter g at k l = pick (ltb (g .stored) 1024) (putRow l (5 * g .stored) (rowNumbers at k)) l
 
 -- the rows are taken: stored becomes 0, dropped stays
-abbrev pub takenOf : Log → Log
-takenOf g = record { stored = 0; dropped = g .dropped }
+abbrev pub logEmptied : Log → Log
+logEmptied g = record { stored = 0; dropped = g .dropped }
 
 -- a diagnostic that is reported: its time and what happened
 pub record Report : Type 0 where

@@ -3,7 +3,7 @@
 ghost use mathlib.Core.Path.{_≡_};
 ghost use Prim.Native.Nat.{_<_};
 ghost use lib.ListN.{set};
-ghost use Rattle.log.specs.Log.{reported, rowsAfter, putRow, takenOf};
+ghost use Rattle.log.specs.Log.{reported, rowsAfter, putRow, logEmptied};
 use base::saturating_add;
 use diagnostic::DiagnosticKind;
 use diagnostic::MAX_DIAGNOSTICS;
@@ -61,7 +61,7 @@ pub fn report(log: Log, rows: &mut [u64], at: u64, kind: DiagnosticKind) -> Log
 // The rows are taken: none is stored any more. They stay in the buffer, and the count of those
 // that were not stored stays.
 pub fn taken(log: Log) -> Log
-    ensures { λ r. ⌜ r ≡ takenOf log ⌝ }
+    ensures { λ r. ⌜ r ≡ logEmptied log ⌝ }
 {
     Log {
         stored: 0,

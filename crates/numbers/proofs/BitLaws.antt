@@ -9,8 +9,8 @@ use Rattle.base.proofs.Below.{below, at}
 use Rattle.base.proofs.Cases.{by-cases}
 use Rattle.ram.specs.Plane.{bitOf}
 use Rattle.ram.proofs.ByteLaws.{bit-small}
-use Rattle.numbers.specs.Number.{tableOf}
-use Rattle.numbers.specs.Row.{numberOfBit}
+use Rattle.numbers.specs.Number.{transitionOf}
+use Rattle.numbers.specs.InnerRow.{numberOfBit}
 
 -- ---- the bits that are white
 other-test : T (below 256 (λ b. below 8 (λ k. eqb (bitOf (255 - b) k) (1 - bitOf b k))))
@@ -43,14 +43,14 @@ none-white b k white h l hk =
     rw none (sym (ne-eqb (bitOf b k) white (λ e. no-bit white (bitOf b k) h l (bit-small b k) e)))
 
 -- ---- a number without a branch
-number-test : T (below 2 (λ o. below 2 (λ n. eqb (4 - o - n - n) (tableOf (eqb o 1) (eqb n 1)))))
-unfolding tableOf
+number-test : T (below 2 (λ o. below 2 (λ n. eqb (4 - o - n - n) (transitionOf (eqb o 1) (eqb n 1)))))
+unfolding transitionOf
 number-test = tt
 
 pub number-of-ones : (old new k : ℕ) → 4 - bitOf old k - bitOf new k - bitOf new k ≡ numberOfBit old new 1 k
 number-of-ones old new k =
     let o = bitOf old k in
     let n = bitOf new k in
-    eqb→eq (4 - o - n - n) (tableOf (eqb o 1) (eqb n 1))
-    (at 2 (λ n. eqb (4 - o - n - n) (tableOf (eqb o 1) (eqb n 1)))
-    (at 2 (λ o. below 2 (λ n. eqb (4 - o - n - n) (tableOf (eqb o 1) (eqb n 1)))) number-test o (bit-small old k)) n (bit-small new k))
+    eqb→eq (4 - o - n - n) (transitionOf (eqb o 1) (eqb n 1))
+    (at 2 (λ n. eqb (4 - o - n - n) (transitionOf (eqb o 1) (eqb n 1)))
+    (at 2 (λ o. below 2 (λ n. eqb (4 - o - n - n) (transitionOf (eqb o 1) (eqb n 1)))) number-test o (bit-small old k)) n (bit-small new k))

@@ -17,8 +17,8 @@ use Rattle.ram.specs.Plane.{place, bitAt}
 use Rattle.numbers.specs.declared.Scan.{Scan}
 use Rattle.numbers.specs.declared.Row.{Row}
 use Rattle.numbers.specs.declared.Pixels.{Pixels}
-use Rattle.numbers.specs.Number.{shownAt, tableOf, numberOf, someUndriven}
-use Rattle.numbers.specs.Row.{rowAt, numberIn, numberOfBit, byteInside, wholeByte}
+use Rattle.numbers.specs.Number.{shownAt, transitionOf, numberOf, someUndriven}
+use Rattle.numbers.specs.InnerRow.{rowAt, numberIn, numberOfBit, byteInside, eightStraight}
 
 -- ---- tests of a larger and of a smaller end
 leb-max : (a b c : ℕ) → leb (max a b) c ≡ leb a c && leb b c
@@ -90,7 +90,7 @@ unfolding numberIn numberOf
 number-by-row p old new y x =
     let c = shownAt (p .columns) (p .active .x0) (p .active .x1) x in
     by-row (p .active) (p .area) c (shownAt (p .rows) (p .active .y0) (p .active .y1) y)
-    (λ r. tableOf (eqb (bitAt old c r) (p .white)) (eqb (bitAt new c r) (p .white)))
+    (λ r. transitionOf (eqb (bitAt old c r) (p .white)) (eqb (bitAt new c r) (p .white)))
 
 -- ---- looking for 255
 module _ (l : List ℕ) (i : ℕ) where
@@ -118,9 +118,9 @@ all-four true true false d e = no-test e
 all-four true false c d e = no-test e
 all-four false b c d e = no-test e
 
-module _ (s : Scan) (q : Row) (x : ℕ) (h : wholeByte s q x ≡ true) where
+module _ (s : Scan) (q : Row) (x : ℕ) (h : eightStraight s q x ≡ true) where
   pub whole-fits : x + 8 ≤ s .count
-  unfolding wholeByte byteInside
+  unfolding eightStraight byteInside
   whole-fits =
       let e = in-order (s .reversed) (s .straight) (byteInside (s .count) q x) h in
       leb-true (x + 8) (s .count) (all-four (eqb (x % 8) 0) (leb (x + 8) (s .count)) (leb (q .lo) x) (leb (x + 7) (q .hi)) (e .2) .1)
@@ -128,7 +128,7 @@ module _ (s : Scan) (q : Row) (x : ℕ) (h : wholeByte s q x ≡ true) where
   pub whole-numbers : (white first last : ℕ) (old new : List ℕ) (k : ℕ) → k < 8 →
       numberOfBit (getD old (q .row * 100 + x / 8) 0) (getD new (q .row * 100 + x / 8) 0) white k
       ≡ numberIn q white old new (shownAt s first last (x + k))
-  unfolding wholeByte byteInside shownAt numberIn bitAt
+  unfolding eightStraight byteInside shownAt numberIn bitAt
   whole-numbers white first last old new k l =
       let e = in-order (s .reversed) (s .straight) (byteInside (s .count) q x) h in
       let f = all-four (eqb (x % 8) 0) (leb (x + 8) (s .count)) (leb (q .lo) x) (leb (x + 7) (q .hi)) (e .2) in

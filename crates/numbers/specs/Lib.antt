@@ -1,3 +1,3 @@
 pub mod Filled
 pub mod Number
-pub mod Row
+pub mod InnerRow

@@ -16,8 +16,8 @@ use Rattle.numbers.specs.declared.Scan.{Scan}
 use Rattle.numbers.specs.declared.Pixels.{Pixels}
 
 -- what the numbers go by: the panel's flags and size, bits 2 and 3 of the first 00 byte, the areas, and the value of white
-unfoldable pub pixelsOf : Uc8253Geometry → Registers → Variant → Pixels
-pixelsOf g r v = record {
+unfoldable pub mappingOf : Uc8253Geometry → Registers → Variant → Pixels
+mappingOf g r v = record {
   columns = record { reversed = g .«columns_reversed»; count = g .sources; straight = bitSet (getD (r .psr) 0 0) 2 };
   rows = record { reversed = g .«rows_reversed»; count = g .gates; straight = bitSet (getD (r .psr) 0 0) 3 };
   active = activeOf r;
@@ -40,15 +40,15 @@ shownAt s first last v =
     (pick (leb (reversedOf s v) (first + last)) (first + last - reversedOf s v) nowhere)
 
 -- WW 1, KW 2, WK 3, KK 4, by whether the old and the new bit are white
-unfoldable pub tableOf : Bool → Bool → ℕ
-tableOf old new = pick old (pick new 1 3) (pick new 2 4)
+unfoldable pub transitionOf : Bool → Bool → ℕ
+transitionOf old new = pick old (pick new 1 3) (pick new 2 4)
 
 -- the number of the pixel in column x and row y of the panel: outside that area or the written one 255
 unfoldable pub numberOf : Pixels → List ℕ → List ℕ → ℕ → ℕ → ℕ
 numberOf p old new x y =
     let c = shownAt (p .columns) (p .active .x0) (p .active .x1) x in
     let r = shownAt (p .rows) (p .active .y0) (p .active .y1) y in
-    pick (inside (p .active) c r && inside (p .area) c r) (tableOf (eqb (bitAt old c r) (p .white)) (eqb (bitAt new c r) (p .white))) 255
+    pick (inside (p .active) c r && inside (p .area) c r) (transitionOf (eqb (bitAt old c r) (p .white)) (eqb (bitAt new c r) (p .white))) 255
 
 -- the picture is partial if any number is 255
 abbrev pub someUndriven : List ℕ → Bool

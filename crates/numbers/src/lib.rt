@@ -7,8 +7,8 @@ ghost use lib.ListN.{length};
 ghost use Rattle.base.specs.Pick.{pick};
 ghost use Rattle.ram.specs.Plane.{bitOf};
 ghost use Rattle.numbers.specs.Filled.{filled, rowsFilled};
-ghost use Rattle.numbers.specs.Row.{noRow, rowAt, numberIn, numberOfBit, byteInside, wholeByte, Some};
-ghost use Rattle.numbers.specs.Number.{pixelsOf, reversedOf, shownAt, tableOf, numberOf, someUndriven};
+ghost use Rattle.numbers.specs.InnerRow.{noRow, rowAt, numberIn, numberOfBit, byteInside, eightStraight, Some};
+ghost use Rattle.numbers.specs.Number.{mappingOf, reversedOf, shownAt, transitionOf, numberOf, someUndriven};
 use config::Uc8253Geometry;
 use config::Variant;
 use ram::bit;
@@ -50,7 +50,7 @@ pub struct Pixels {
 impl Pixels {
     // By the panel's flags, the first byte of PSR, the areas, and the bit that CDI makes white.
     pub fn of(panel: Uc8253Geometry, regs: Registers, variant: Variant) -> Pixels
-        ensures { λ r. ⌜ r ≡ pixelsOf panel regs variant ⌝ }
+        ensures { λ r. ⌜ r ≡ mappingOf panel regs variant ⌝ }
     {
         let psr = regs.psr;
         let first = psr[0];
@@ -116,7 +116,7 @@ fn shown(scan: Scan, first: u16, last: u16, v: u16) -> u32
 }
 
 fn table_number(old_white: bool, new_white: bool) -> u8
-    ensures { λ r. ⌜ r ≡ tableOf «old_white» «new_white» ⌝ }
+    ensures { λ r. ⌜ r ≡ transitionOf «old_white» «new_white» ⌝ }
 {
     if old_white {
         if new_white { 1 } else { 3 }
@@ -260,7 +260,7 @@ fn byte_inside(count: u16, row: Row, x: u16) -> bool
 
 // Whether the eight columns of the panel from x on show whole bytes of the RAM, in their order.
 fn whole_byte(columns: Scan, row: Row, x: u16) -> bool
-    ensures { λ r. ⌜ r ≡ wholeByte columns row x ⌝ }
+    ensures { λ r. ⌜ r ≡ eightStraight columns row x ⌝ }
 {
     if columns.reversed {
         return false;

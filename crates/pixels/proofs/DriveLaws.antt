@@ -15,7 +15,7 @@ use Rattle.glass.specs.declared.Transfer.{Transfer}
 use Rattle.glass.specs.Walk.{walk}
 use Rattle.glass.specs.Transfer.{act, Acts}
 use Rattle.glass.proofs.WalkLaws.{walk-within}
-use Rattle.pixels.specs.States.{most, everyState, InRange}
+use Rattle.pixels.specs.States.{most, everyState, StateInRange}
 use Rattle.pixels.specs.Drive.{byNumber, movedOnce, movedBy, driven, framesFor}
 use Rattle.pixels.proofs.ListLaws.{beside-length, beside-at, beside-past}
 use Rattle.pixels.proofs.StateLaws.{states-in-range, in-range-states}
@@ -71,12 +71,12 @@ module _ (s : ℕ) (ww kw wk kk : Transfer) (f : ℕ → List ℤ) (b : s ≤ mo
       (once-walk s ww (f 1) x b a₁ h) (once-walk s kw (f 2) x b a₂ h) (once-walk s wk (f 3) x b a₃ h) (once-walk s kk (f 4) x b a₄ h) refl
 
   -- of a state in range, and that it stays there
-  pub state-walk : (n : ℕ) (z : ℤ) → InRange s z → movedBy ww kw wk kk n z ≡ pos (walk s (up z) (framesFor f n))
+  pub state-walk : (n : ℕ) (z : ℤ) → StateInRange s z → movedBy ww kw wk kk n z ≡ pos (walk s (up z) (framesFor f n))
   state-walk n z r = ap (movedBy ww kw wk kk n) (r .is) ∙ moved-walk n (up z) (r .within)
 
-  pub moved-in-range : (n : ℕ) (z : ℤ) → InRange s z → InRange s (movedBy ww kw wk kk n z)
+  pub moved-in-range : (n : ℕ) (z : ℤ) → StateInRange s z → StateInRange s (movedBy ww kw wk kk n z)
   moved-in-range n z r =
-      subst (λ (y : ℤ). InRange s y) (sym (state-walk n z r))
+      subst (λ (y : ℤ). StateInRange s y) (sym (state-walk n z r))
       (record { is = refl; within = walk-within s (up z) (framesFor f n) (r .within) })
 
   -- ---- all states
@@ -92,7 +92,7 @@ module _ (s : ℕ) (ww kw wk kk : Transfer) (f : ℕ → List ℤ) (b : s ≤ mo
       in-range-states s (driven ww kw wk kk numbers states)
       (λ i h. within i (subst (λ (n : ℕ). i < n) (driven-length ww kw wk kk numbers states) h))
     where
-      within : (i : ℕ) → i < length states → InRange s (getD (driven ww kw wk kk numbers states) i (pos 0))
+      within : (i : ℕ) → i < length states → StateInRange s (getD (driven ww kw wk kk numbers states) i (pos 0))
       within i k =
-          subst (λ (z : ℤ). InRange s z) (sym (driven-at ww kw wk kk numbers states i k))
+          subst (λ (z : ℤ). StateInRange s z) (sym (driven-at ww kw wk kk numbers states i k))
           (moved-in-range (getD numbers i 255) (getD states i (pos 0)) (states-in-range s states e i k))

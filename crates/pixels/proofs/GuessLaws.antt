@@ -10,7 +10,7 @@ use lib.Seq.{getD-set-same, getD-set-other}
 use Rattle.glass.specs.Gray.{grayOf}
 use Rattle.glass.proofs.GrayLaws.{gray-between}
 use Rattle.pixels.specs.declared.Scale.{Scale}
-use Rattle.pixels.specs.Guess.{thresholdOf, Thresholds, unit, white, Scaled}
+use Rattle.pixels.specs.InnerGuess.{thresholdOf, Thresholds, unit, white, Scaled}
 
 -- from the threshold of q to below the next one
 pub confirmed : (s x q : ℕ) (from : List ℕ) → Thresholds s from 257 → q ≤ 255 → getD from q 0 ≤ x → x < getD from (q + 1) 0 → grayOf x s ≡ q

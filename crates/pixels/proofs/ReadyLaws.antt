@@ -13,7 +13,7 @@ use Rattle.glass.proofs.TransferLaws.{act-is, held-move}
 use Rattle.pixels.specs.declared.Ready.{Ready}
 use Rattle.pixels.specs.States.{most}
 use Rattle.pixels.specs.Drive.{byNumber, movedOnce, movedBy}
-use Rattle.pixels.specs.Ready.{past, readyOf, Bounded, movedReady, slotOf}
+use Rattle.pixels.specs.InnerReady.{past, readyOf, Bounded, movedReady, slotOf}
 use Rattle.pixels.proofs.DriveLaws.{number-both}
 
 -- ---- one transfer

@@ -12,22 +12,22 @@ use lib.ListN.{length, getD, replicate}
 use borrow.Author.Tests.{le-leb, leb-true, ne-eqb}
 use Rattle.base.specs.Integer.{dn}
 use Rattle.glass.specs.Gray.{levelOf}
-use Rattle.pixels.specs.States.{most, heldOf, isState, everyState, InRange, isNumber, everyNumber}
+use Rattle.pixels.specs.States.{most, stateHeld, isState, everyState, StateInRange, isNumber, everyNumber}
 use Rattle.pixels.proofs.ListLaws.{every-at, every-from, every-replicate}
 
 -- ---- states
-pub state-in-range : (s : ℕ) (z : ℤ) → isState s z ≡ true → InRange s z
+pub state-in-range : (s : ℕ) (z : ℤ) → isState s z ≡ true → StateInRange s z
 state-in-range s (pos n) e = record { is = refl; within = leb-true n s e }
 state-in-range s (negsuc n) e = absurd (subst (λ (b : Bool). T b) (sym e) tt)
 
-pub in-range-state : (s : ℕ) (z : ℤ) → InRange s z → isState s z ≡ true
+pub in-range-state : (s : ℕ) (z : ℤ) → StateInRange s z → isState s z ≡ true
 in-range-state s (pos n) r = le-leb n s (r .within)
 in-range-state s (negsuc n) r = absurd (omega (arith, ap dn (r .is)))
 
-pub states-in-range : (s : ℕ) (l : List ℤ) → everyState s l ≡ true → (i : ℕ) → i < length l → InRange s (getD l i (pos 0))
+pub states-in-range : (s : ℕ) (l : List ℤ) → everyState s l ≡ true → (i : ℕ) → i < length l → StateInRange s (getD l i (pos 0))
 states-in-range s l e i h = state-in-range s (getD l i (pos 0)) (every-at (isState s) l e i h (pos 0))
 
-pub in-range-states : (s : ℕ) (l : List ℤ) → ((i : ℕ) → i < length l → InRange s (getD l i (pos 0))) → everyState s l ≡ true
+pub in-range-states : (s : ℕ) (l : List ℤ) → ((i : ℕ) → i < length l → StateInRange s (getD l i (pos 0))) → everyState s l ≡ true
 in-range-states s l f = every-from (isState s) l (pos 0) (λ i h. in-range-state s (getD l i (pos 0)) (f i h))
 
 pub states-replicate : (s k n : ℕ) → n ≤ s → everyState s (replicate k (pos n)) ≡ true
@@ -37,7 +37,7 @@ states-replicate s k n h = every-replicate (isState s) k (pos n) (le-leb n s h)
 pub level-within : (g s : ℕ) → g ≤ 255 → levelOf g s ≤ s
 level-within g s h = omega (arith, mul-le-mul-left {m = g} {n = 255} s h)
 
-pub held-exact : (x s : ℕ) → x ≤ s → s ≤ most → heldOf x ≡ pos x
+pub held-exact : (x s : ℕ) → x ≤ s → s ≤ most → stateHeld x ≡ pos x
 held-exact x s h b = ap pos {x = min x most} {y = x} (omega arith)
 
 -- ---- table numbers

@@ -8,7 +8,7 @@ use Rattle.base.specs.Pick.{pick}
 use Rattle.glass.specs.declared.Transfer.{Transfer}
 use Rattle.glass.specs.Transfer.{act}
 use Rattle.pixels.specs.Lists.{beside}
-use Rattle.pixels.specs.States.{heldOf}
+use Rattle.pixels.specs.States.{stateHeld}
 
 -- what belongs to a table number: 1 WW, 2 KW, 3 WK, 4 KK, and any other number, as 255, has no table
 unfoldable pub byNumber : {A : Type 0} → A → A → A → A → A → ℕ → A
@@ -16,7 +16,7 @@ byNumber ww kw wk kk none n = pick (eqb n 1) ww (pick (eqb n 2) kw (pick (eqb n 
 
 -- an entry moved by a transfer; what lies below 0 counts as 0
 unfoldable pub movedOnce : Transfer → ℤ → ℤ
-movedOnce t z = heldOf (act t (up z))
+movedOnce t z = stateHeld (act t (up z))
 
 -- an entry moved by the transfer of its number
 abbrev pub movedBy : Transfer → Transfer → Transfer → Transfer → ℕ → ℤ → ℤ

@@ -1,6 +1,6 @@
 pub mod Lists
 pub mod States
 pub mod Drive
-pub mod Ready
+pub mod InnerReady
 pub mod Draw
-pub mod Guess
+pub mod InnerGuess

@@ -14,8 +14,8 @@ abbrev pub most : ℕ
 most = 0x7fff_ffff_ffff_ffff
 
 -- a state as an entry holds it
-abbrev pub heldOf : ℕ → ℤ
-heldOf x = pos (min x most)
+abbrev pub stateHeld : ℕ → ℤ
+stateHeld x = pos (min x most)
 
 -- an entry is a state: it lies in 0 .. full swing
 abbrev pub isState : ℕ → ℤ → Bool
@@ -26,7 +26,7 @@ abbrev pub everyState : ℕ → List ℤ → Bool
 everyState s l = every (isState s) l
 
 -- what that test says of an entry
-pub record InRange (s : ℕ) (z : ℤ) : Type 0 where
+pub record StateInRange (s : ℕ) (z : ℤ) : Type 0 where
   pub is : z ≡ pos (up z)
   pub within : up z ≤ s
 

@@ -7,11 +7,11 @@ ghost use lib.ListN.{length, replicate};
 ghost use Rattle.base.specs.Integer.{up};
 ghost use Rattle.base.specs.Pick.{pick};
 ghost use Rattle.glass.specs.Gray.{grayOf};
-ghost use Rattle.pixels.specs.States.{heldOf, isState, everyState, isNumber, everyNumber};
+ghost use Rattle.pixels.specs.States.{stateHeld, isState, everyState, isNumber, everyNumber};
 ghost use Rattle.pixels.specs.Drive.{driven};
-ghost use Rattle.pixels.specs.Ready.{readyOf, Bounded, movedReady, slotOf};
+ghost use Rattle.pixels.specs.InnerReady.{readyOf, Bounded, movedReady, slotOf};
 ghost use Rattle.pixels.specs.Draw.{drawn};
-ghost use Rattle.pixels.specs.Guess.{thresholdOf, Thresholds, white, Scaled};
+ghost use Rattle.pixels.specs.InnerGuess.{thresholdOf, Thresholds, white, Scaled};
 use base::greatest;
 use base::least;
 use base::saturating_add;
@@ -58,7 +58,7 @@ fn above(z: i64) -> u64
 
 // A state as the buffer holds it.
 fn held(x: u64) -> i64
-    ensures { λ r. ⌜ r ≡ heldOf x ⌝ }
+    ensures { λ r. ⌜ r ≡ stateHeld x ⌝ }
 {
     least(x, MOST) as i64
 }
@@ -71,7 +71,7 @@ fn shorter(a: usize, b: usize) -> usize
 
 // Every state becomes one.
 pub fn fill_states(states: &mut [i64], state: u64)
-    ensures { λ _. ⌜ now (states .exit) ≡ replicate (length (now (states .entry))) (heldOf state) ⌝ }
+    ensures { λ _. ⌜ now (states .exit) ≡ replicate (length (now (states .entry))) (stateHeld state) ⌝ }
 {
     let z = held(state);
     let mut i = 0;

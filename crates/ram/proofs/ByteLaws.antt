@@ -13,7 +13,7 @@ use Rattle.base.specs.Turns.{turns}
 use Rattle.base.proofs.Below.{below, both, at}
 use Rattle.base.proofs.Turns.{turns-same, turns-keep}
 use Rattle.ram.specs.Plane.{bitOf, withBit}
-use Rattle.ram.specs.Bytewise.{merge}
+use Rattle.ram.specs.InnerBytewise.{merge}
 
 -- of a byte b with bit k put to v, bit j is v where j is k, and else as it was
 right-bit : ℕ → ℕ → ℕ → ℕ → Bool

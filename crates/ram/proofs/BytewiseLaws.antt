@@ -16,7 +16,7 @@ use Rattle.base.proofs.Turns.{turns-join, turns-same, turns-keep}
 use Rattle.registers.specs.declared.Area.{Area}
 use Rattle.registers.specs.Area.{inside}
 use Rattle.ram.specs.Plane.{bitOf, withBit, place, bitAt, putBit, Bytes}
-use Rattle.ram.specs.Bytewise.{merge, wholeByte, copiedBytes}
+use Rattle.ram.specs.InnerBytewise.{merge, wholeByte, copiedBytes}
 use Rattle.ram.specs.Write.{putInside, written}
 use Rattle.ram.specs.Copy.{copiedBits}
 use Rattle.ram.proofs.AreaLaws.{and-both, inside-between}

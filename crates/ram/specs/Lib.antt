@@ -2,4 +2,4 @@ pub mod Plane
 pub mod Found
 pub mod Write
 pub mod Copy
-pub mod Bytewise
+pub mod InnerBytewise

@@ -2,7 +2,7 @@
 ghost use mathlib.Core.Path.{_≡_};
 ghost use Prim.Native.Nat.{_+_, _<_, _≤_};
 ghost use Rattle.ram.specs.Plane.{bitOf, withBit};
-ghost use Rattle.ram.specs.Bytewise.{merge};
+ghost use Rattle.ram.specs.InnerBytewise.{merge};
 
 // Bit k.
 pub(crate) fn bit_of(b: u8, k: usize) -> u8

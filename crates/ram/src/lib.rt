@@ -7,7 +7,7 @@ ghost use lib.ListN.{length, getD, set};
 ghost use Rattle.ram.specs.Plane.{place as placeOf, bitAt};
 ghost use Rattle.ram.specs.Found.{ramBit};
 ghost use Rattle.ram.specs.Write.{putInside, written, nextOf};
-ghost use Rattle.ram.specs.Bytewise.{wholeByte, copiedBytes};
+ghost use Rattle.ram.specs.InnerBytewise.{wholeByte, copiedBytes};
 ghost use Rattle.ram.specs.Copy.{copiedBits, copiedRow, copied};
 
 mod byte;

@@ -3,13 +3,13 @@ use mathlib.Core.List.{List}
 use Prim.Native.Nat.{ℕ, min}
 use lib.IntN.{pos}
 use lib.ListN.{replicate}
-use Rattle.capture.specs.Layout.{configIn, pixelsOf}
+use Rattle.capture.specs.Layout.{configIn, pixelCount}
 use Rattle.controller.specs.World.{World, Buffers, buffers}
 use Rattle.playback.specs.Played.{played}
 
 -- a pixel of the panel each, and no more than there is room for
 unfoldable pub room : List ℕ → ℕ
-room file = min (pixelsOf (configIn file)) 8000
+room file = min (pixelCount (configIn file)) 8000
 
 abbrev pub lentFor : List ℕ → List ℕ → List ℕ → Buffers
 lentFor file old new =

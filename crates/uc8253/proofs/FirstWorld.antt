@@ -13,7 +13,7 @@ use Rattle.glass.specs.Gray.{levelOf}
 use Rattle.config.specs.declared.Uc8253Config.{Uc8253Config}
 use Rattle.config.specs.Refusal.{refusal}
 use Rattle.config.proofs.RefusalLaws.{accepted}
-use Rattle.pixels.specs.States.{heldOf}
+use Rattle.pixels.specs.States.{stateHeld}
 use Rattle.pixels.proofs.StateLaws.{level-within, held-exact}
 use Rattle.controller.specs.declared.Uc8253.{Uc8253}
 use Rattle.controller.specs.World.{Buffers, buffers, world}
@@ -37,12 +37,12 @@ pub record Filled (c : Uc8253Config) (b : Buffers) (chip : Uc8253) (a : Buffers)
   pub chip-is : chip ≡ firstChip c
   pub old-is : a .old ≡ replicate (length (b .old)) 0
   pub new-is : a .new ≡ replicate (length (b .new)) 0
-  pub states-is : a .states ≡ replicate (length (b .states)) (heldOf (levelOf (c .optics .«initial_gray») (c .optics .«full_swing»)))
+  pub states-is : a .states ≡ replicate (length (b .states)) (stateHeld (levelOf (c .optics .«initial_gray») (c .optics .«full_swing»)))
   pub numbers-is : a .numbers ≡ replicate (length (b .numbers)) 0
   pub picture-is : a .picture ≡ replicate (length (b .picture)) (c .optics .«initial_gray»)
   pub rows-is : a .rows ≡ replicate (length (b .rows)) 0
 
-pub at-level : {l : List ℤ} {x y : ℕ} (n : ℕ) → l ≡ replicate n (heldOf x) → x ≡ y → l ≡ replicate n (heldOf y)
+pub at-level : {l : List ℤ} {x y : ℕ} (n : ℕ) → l ≡ replicate n (stateHeld x) → x ≡ y → l ≡ replicate n (stateHeld y)
 at-level n e f = rw (← f) e
 
 long : {A : Type 0} {l : List A} {n k : ℕ} (x : A) → l ≡ replicate n x → n ≡ k → l ≡ replicate k x
@@ -60,7 +60,7 @@ first-buffers c b chip a g e f =
     let l = lengths c b (u .1) in
     let s = c .optics .«full_swing» in
     let x = levelOf (c .optics .«initial_gray») s in
-    let h : heldOf x ≡ pos x = held-exact x s (level-within (c .optics .«initial_gray») s g) (accepted c (u .0) .swing-most) in
+    let h : stateHeld x ≡ pos x = held-exact x s (level-within (c .optics .«initial_gray») s g) (accepted c (u .0) .swing-most) in
     same-buffers
     (long 0 (f .old-is) (l .old))
     (long 0 (f .new-is) (l .new))

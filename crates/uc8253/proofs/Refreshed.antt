@@ -14,7 +14,7 @@ use Rattle.registers.specs.declared.Area.{Area}
 use Rattle.registers.specs.Written.{writtenOf}
 use Rattle.numbers.specs.declared.Pixels.{Pixels}
 use Rattle.numbers.specs.Filled.{rowsFilled}
-use Rattle.numbers.specs.Number.{pixelsOf, numberOf}
+use Rattle.numbers.specs.Number.{mappingOf, numberOf}
 use Rattle.ram.specs.Copy.{copied}
 use Rattle.registers.specs.Flags.{copiesNewToOld}
 use Rattle.pixels.specs.Draw.{drawn}
@@ -25,7 +25,7 @@ use Rattle.controller.specs.World.{Buffers, world, buffers}
 use Rattle.controller.specs.Setters.{withImage, withOperation, withWaveform}
 use Rattle.controller.specs.Refresh.{walked, published, finished, allFrames, elapsed, copiedAfter, endedRefresh}
 use Rattle.controller.specs.Refresh.{cutRefresh, waveformNow, numbersNow, kindBy, refreshing, refreshStarted}
-use Rattle.uc8253.specs.Steps.{copiedIf}
+use Rattle.uc8253.specs.InnerSteps.{copiedIf}
 
 -- the picture published, and the old plane after it
 copied-parts : (r : Refresh) (t : Bool) (q : Uc8253) (old new : List ℕ) (states : List ℤ) (numbers picture rows : List ℕ)
@@ -63,15 +63,15 @@ cut-parts r p q old new states numbers picture rows n states′ picture′ e₀ 
     (λ i. world (e₃ i) (buffers old new (e i) numbers ((e₂ ∙ ap (λ (l : List ℤ). drawn (p .config .optics .«full_swing») l picture) e) i) rows))
 
 -- the numbers by what was worked out of the registers
-noted : (p : Uc8253) (b : Buffers) (px : Pixels) → px ≡ pixelsOf (p .config .panel) (p .regs) (p .config .variant)
+noted : (p : Uc8253) (b : Buffers) (px : Pixels) → px ≡ mappingOf (p .config .panel) (p .regs) (p .config .variant)
     → rowsFilled (numberOf px (b .old) (b .new)) (px .columns .count) (px .rows .count) (b .numbers) ≡ numbersNow p b
-unfolding numbersNow pixelsOf
+unfolding numbersNow mappingOf
 noted p b px e = ap (λ (x : Pixels). rowsFilled (numberOf x (b .old) (b .new)) (x .columns .count) (x .rows .count) (b .numbers)) e
 
 pub start-parts : (p : Uc8253) (old new : List ℕ) (states : List ℤ) (numbers picture rows : List ℕ) (wf : Waveform) (px : Pixels)
     (ns : List ℕ) (k : RefreshKind) (area : Area) (d end : ℕ)
     → wf ≡ waveformNow p
-    → px ≡ pixelsOf (p .config .panel) (p .regs) (p .config .variant)
+    → px ≡ mappingOf (p .config .panel) (p .regs) (p .config .variant)
     → ns ≡ rowsFilled (numberOf px old new) (px .columns .count) (px .rows .count) numbers
     → area ≡ writtenOf (p .regs)
     → k ≡ kindBy ns

@@ -14,7 +14,7 @@ use Rattle.controller.specs.declared.Uc8253.{Uc8253}
 use Rattle.controller.specs.World.{Buffers}
 use Rattle.controller.specs.TurnedBack.{foreignRecord, lentRefused, foreignContents}
 use Rattle.controller.specs.Calls.{rowRefused}
-use Rattle.uc8253.specs.Steps.{seven}
+use Rattle.uc8253.specs.InnerSteps.{seven}
 
 -- ---- a question that is not refused
 taken : (a b : Bool) → _≡_ {A = ℕ} (pick a 6 (pick b 0 5)) 0 → b ≡ true

@@ -34,7 +34,7 @@ ghost use Rattle.controller.specs.DataByte.{dataByte};
 ghost use Rattle.controller.specs.Reading.{reading, readOf};
 ghost use Rattle.controller.specs.Reset.{resetEdge};
 ghost use Rattle.controller.specs.TurnedBack.{endsRefresh, turnedBack};
-ghost use Rattle.uc8253.specs.Steps as steps;
+ghost use Rattle.uc8253.specs.InnerSteps as steps;
 ghost use Rattle.controller.specs.World.{world};
 ghost use Rattle.base.specs.RefusalNumbers.{refusalNumber};
 ghost use Rattle.controller.specs.Ask as ask;

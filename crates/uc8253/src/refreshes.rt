@@ -1,6 +1,6 @@
 // A refresh: its start, and its end on the glass.
 ghost use mathlib.Core.Path.{_≡_};
-ghost use Rattle.uc8253.specs.Steps as steps;
+ghost use Rattle.uc8253.specs.InnerSteps as steps;
 ghost use mathlib.Core.Bool.{true};
 ghost use Prim.Native.Nat.{_≤_};
 ghost use mathlib.Core.List.{List};

@@ -1,6 +1,6 @@
 // The reset line.
 ghost use mathlib.Core.Path.{_≡_};
-ghost use Rattle.uc8253.specs.Steps as steps;
+ghost use Rattle.uc8253.specs.InnerSteps as steps;
 ghost use mathlib.Core.Bool.{true};
 ghost use mathlib.Core.List.{List};
 ghost use Prim.Native.Nat.{ℕ};

@@ -16,7 +16,7 @@ use Rattle.config.specs.declared.Uc8253Config.{Uc8253Config}
 use Rattle.config.specs.declared.Variant.{Variant}
 use Rattle.waveform.specs.declared.Waveform.{Waveform}
 use Rattle.waveform.specs.Tables.{durationOf}
-use Rattle.numbers.specs.Number.{pixelsOf, numberOf}
+use Rattle.numbers.specs.Number.{mappingOf, numberOf}
 use Rattle.diagnostic.specs.declared.DiagnosticKind.{DiagnosticKind}
 use Rattle.controller.specs.declared.Current.{Current}
 use Rattle.controller.specs.declared.Current.the-variants as current
@@ -43,7 +43,7 @@ view-started : (w : World) → Panelled w
 unfolding drv.refreshStarted drv.refreshing drv.waveformNow drv.numbersNow noted
 view-started w p =
     rw (rows-tabulated
-    (numberOf (pixelsOf (w .chip .config .panel) (w .chip .regs) (w .chip .config .variant)) (w .lent .old) (w .lent .new))
+    (numberOf (mappingOf (w .chip .config .panel) (w .chip .regs) (w .chip .config .variant)) (w .lent .old) (w .lent .new))
     (w .chip .config .panel .sources) (w .chip .config .panel .gates) (w .lent .numbers) (p .wide) (p .long))
 
 view-told : (k : DiagnosticKind) (w : World) → view (tell k w) ≡ view w

@@ -5,7 +5,7 @@ use Prim.Native.Nat.{ℕ, max}
 use lib.Dec.{leb}
 use Rattle.base.proofs.Cases.{by-cases, both}
 use Rattle.registers.specs.Flags.{copiesNewToOld}
-use Rattle.log.specs.Log.{takenOf}
+use Rattle.log.specs.Log.{logEmptied}
 use Rattle.controller.specs.declared.Refresh.{Refresh}
 use Rattle.controller.specs.declared.Work.{Work}
 use Rattle.controller.specs.declared.Work.the-variants as work
@@ -116,7 +116,7 @@ moved (datum t b) w = dataByte b (arrived t w)
 moved (reading t) w = rd.reading (arrived t w)
 moved (advance t) w = arrived t w
 moved (reset t asserted) w = resetEdge asserted (arrived t w)
-moved taking w = onChip (λ p. withLog (takenOf (p .log)) p) w
+moved taking w = onChip (λ p. withLog (logEmptied (p .log)) p) w
 moved (askBusy t) w = w
 moved askDeadline w = w
 moved (askBit older x y) w = w

@@ -30,8 +30,8 @@ use Rattle.walk.proofs.Demand.{made-is}
 -- one name that opens all of them
 unfoldable pub all : ℕ
 unfolding kindOf inside bytes.tenBits bytes.windowSet bytes.heldArea bytes.putAt bytes.byteOf luts.resetLuts luts.keptByte luts.lutByteOf
-    resetOf activeOf writtenOf withBit bitAt putBit putInside written nextOf copied levelOfCode floats tables.ends driveOf number.pixelsOf
-    number.shownAt number.tableOf number.numberOf m.framesOn m.settled m.dropped m.noted m.able m.refresh m.acted m.commanded m.softened
+    resetOf activeOf writtenOf withBit bitAt putBit putInside written nextOf copied levelOfCode floats tables.ends driveOf number.mappingOf
+    number.shownAt number.transitionOf number.numberOf m.framesOn m.settled m.dropped m.noted m.able m.refresh m.acted m.commanded m.softened
     m.streamed m.stored m.took m.given m.cleared m.lowered m.raised m.stepped m.framesAt m.fresh m.fed1 m.framesFed1 m.ran m.framesFed
 all = 0
 

@@ -24,7 +24,7 @@ use Rattle.waveform.specs.declared.Waveform.{Waveform}
 use Rattle.waveform.specs.Levels.{levelsOf}
 use Rattle.waveform.specs.Tables.{waveformOf, durationOf}
 use Rattle.waveform.specs.Frames.{framesOf}
-use Rattle.numbers.specs.Number.{pixelsOf, numberOf}
+use Rattle.numbers.specs.Number.{mappingOf, numberOf}
 use Rattle.controller.specs.Ask.{Ask, command, datum, reading, advance, reset, taking, askBusy, askDeadline, askBit, askRow}
 use Rattle.walk.specs.Kept.{Order, Hearing, none, ignored, under, Noted}
 use Rattle.walk.specs.Kept.{Task, powersUp, powersDown, fallsAsleep, resetsSoftly, resetsHardly, drives, Job, idle, until, Machine}
@@ -117,7 +117,7 @@ tabulate f from (suc n) = f from ∷ tabulate f (suc from) n
 
 -- the number of pixel p, counted row by row
 abbrev pub numberAt : Uc8253Config → Machine → ℕ → ℕ
-numberAt g m p = numberOf (pixelsOf (g .panel) (m .regs) (g .variant)) (m .old) (m .new) (p % g .panel .sources) (p / g .panel .sources)
+numberAt g m p = numberOf (mappingOf (g .panel) (m .regs) (g .variant)) (m .old) (m .new) (p % g .panel .sources) (p / g .panel .sources)
 
 -- the tables, the levels of 01, and the period of the low five bits of 30
 abbrev pub waveNow : Uc8253Config → Machine → Waveform

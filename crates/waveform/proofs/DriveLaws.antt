@@ -10,7 +10,7 @@ use Rattle.base.proofs.Integer.{up-neg, dn-neg, up-sub, dn-sub, up-times, dn-ti
 use Rattle.waveform.specs.declared.Levels.{Levels}
 use Rattle.waveform.specs.Levels.{levelOfCode, floats}
 use Rattle.waveform.specs.Frames.{driveOf}
-use Rattle.waveform.specs.Progress.{Drives}
+use Rattle.waveform.specs.InnerProgress.{Drives}
 
 module _ (a b : ℤ) (n : ℕ) where
   up-volts : up ((a -ℤ b) *ℤ pos n) ≡ (up a + dn b - (dn a + up b)) * n

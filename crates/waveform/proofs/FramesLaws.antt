@@ -10,7 +10,7 @@ use Rattle.base.proofs.Lists.{getD-past}
 use Rattle.waveform.specs.declared.Group.{Group}
 use Rattle.waveform.specs.declared.Levels.{Levels}
 use Rattle.waveform.specs.declared.Waveform.{Waveform}
-use Rattle.waveform.specs.Tables.{sumOf, running, countOf, counted, tableAt}
+use Rattle.waveform.specs.Tables.{sumOf, running, frameCount, tableFrameCount, tableAt}
 use Rattle.waveform.specs.Frames.{blank, driveOf, vcomCodes, roundFrames, groupFrames, tableFrames, framesOf}
 
 module _ (l : Levels) (period : ℕ) (black : Bool) where
@@ -27,13 +27,13 @@ module _ (l : Levels) (period : ℕ) (black : Bool) where
 
   -- groups in turn, whatever VCOM's codes in each
   groups-length : (gs : List Group) (codes : ℕ → List ℕ) →
-      sumTo (length gs) (λ k. length (groupFrames l period black (getD gs k blank) (codes k))) ≡ countOf gs
+      sumTo (length gs) (λ k. length (groupFrames l period black (getD gs k blank) (codes k))) ≡ frameCount gs
   groups-length [] codes = refl
   groups-length (g ∷ gs) codes =
       sum-first (length gs) (λ k. length (groupFrames l period black (getD (g ∷ gs) k blank) (codes k)))
       ∙ (λ i. group-length g (codes 0) i + groups-length gs (λ k. codes (suc k)) i)
 
-  pub frames-length : (table vcom : List Group) → length (tableFrames l period black table vcom) ≡ counted table
+  pub frames-length : (table vcom : List Group) → length (tableFrames l period black table vcom) ≡ tableFrameCount table
   frames-length table vcom =
       length-in-turn (length (running table)) _
       ∙ groups-length (running table) (vcomCodes vcom)

@@ -12,7 +12,7 @@ use Rattle.base.specs.Integer.{up, dn}
 use Rattle.glass.specs.Transfer.{Acts, identityOf, shiftOf, thenOf}
 use Rattle.glass.proofs.TransferLaws.{acts-identity, acts-repeated, acts-then}
 use Rattle.waveform.specs.declared.Progress.{Progress}
-use Rattle.waveform.specs.Progress.{Driven, Extends}
+use Rattle.waveform.specs.InnerProgress.{Driven, Extends}
 
 -- ---- extensions
 pub extends-none : (s : ℕ) (p : Progress) → Extends s p p []

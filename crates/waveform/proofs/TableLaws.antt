@@ -9,7 +9,7 @@ use lib.ListN.{length, getD, drop, drop-of-length-le}
 use lib.Seq.{drop-cons}
 use Rattle.base.proofs.Cases.{by-cases}
 use Rattle.waveform.specs.declared.Group.{Group}
-use Rattle.waveform.specs.Tables.{ends, running, counted, longest}
+use Rattle.waveform.specs.Tables.{ends, running, tableFrameCount, longest}
 
 -- what an index past a table's end would read
 abbrev pub unread : Group
@@ -46,7 +46,7 @@ running-get (g ∷ t) d e k h =
 
 -- ---- the longest of the tables from the k-th on
 pub longest-more : (ts : List (List Group)) (k : ℕ) → k < length ts →
-    longest (drop k ts) ≡ max (counted (getD ts k [])) (longest (drop (k + 1) ts))
+    longest (drop k ts) ≡ max (tableFrameCount (getD ts k [])) (longest (drop (k + 1) ts))
 longest-more ts k h = rw (drop-cons ts k [] h, add-one k)
 
 pub longest-done : (ts : List (List Group)) (k : ℕ) → length ts ≤ k → longest (drop k ts) ≡ 0

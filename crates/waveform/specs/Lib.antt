@@ -1,4 +1,4 @@
 pub mod Levels
 pub mod Tables
 pub mod Frames
-pub mod Progress
+pub mod InnerProgress

@@ -40,12 +40,12 @@ running [] = []
 running (g ∷ gs) = pick (ends g) [] (g ∷ running gs)
 
 -- the frames of a table: each group's round as often as its repeats say
-abbrev pub countOf : List Group → ℕ
-countOf [] = 0
-countOf (g ∷ gs) = g .repeats * sumOf (g .frames) + countOf gs
+abbrev pub frameCount : List Group → ℕ
+frameCount [] = 0
+frameCount (g ∷ gs) = g .repeats * sumOf (g .frames) + frameCount gs
 
-abbrev pub counted : List Group → ℕ
-counted gs = countOf (running gs)
+abbrev pub tableFrameCount : List Group → ℕ
+tableFrameCount gs = frameCount (running gs)
 
 abbrev pub waveformOf : List (List ℕ) → Levels → ℕ → Waveform
 waveformOf luts l period = record { tables = tablesOf luts; levels = l; «frame_ns» = period }
@@ -57,7 +57,7 @@ tableAt w k = getD (w .tables) k []
 -- the frames of the longest table
 abbrev pub longest : List (List Group) → ℕ
 longest [] = 0
-longest (t ∷ ts) = max (counted t) (longest ts)
+longest (t ∷ ts) = max (tableFrameCount t) (longest ts)
 
 -- (longest table + 2) × period, held at 2^64 - 1
 abbrev pub durationOf : Waveform → ℕ

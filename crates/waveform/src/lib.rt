@@ -12,9 +12,9 @@ ghost use lib.IntN.{ℤ};
 ghost use Rattle.base.specs.Word.{top};
 ghost use Rattle.glass.specs.Transfer.{Acts};
 ghost use Rattle.waveform.specs.Levels.{supplyLevel, levelsOf, levelOfCode};
-ghost use Rattle.waveform.specs.Tables.{groupOf, tableOf, tablesOf, waveformOf, sumOf, ends, running, counted, durationOf};
+ghost use Rattle.waveform.specs.Tables.{groupOf, tableOf, tablesOf, waveformOf, sumOf, ends, running, tableFrameCount, durationOf};
 ghost use Rattle.waveform.specs.Frames.{driveOf, vcomCodes, roundFrames, groupFrames, framesOf};
-ghost use Rattle.waveform.specs.Progress.{Parts, Drives, Extends, framesUnder};
+ghost use Rattle.waveform.specs.InnerProgress.{Parts, Drives, Extends, framesUnder};
 use base::greatest;
 use base::least;
 use base::saturating_mul;
@@ -185,7 +185,7 @@ fn group_frames(group: Group) -> u64
 
 // The frames of a table, up to its end.
 fn table_frames(table: [Group; GROUPS]) -> u64
-    ensures { λ r. ⌜ (r ≡ counted table) × (r ≤ 1820700) ⌝ }
+    ensures { λ r. ⌜ (r ≡ tableFrameCount table) × (r ≤ 1820700) ⌝ }
 {
     let mut sum: u64 = 0;
     let mut k: usize = 0;

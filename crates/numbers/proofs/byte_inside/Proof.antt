@@ -1,5 +1,5 @@
 -- `numbers::byte_inside` meets its contract, by its four tests.
-use Rattle.numbers.specs.Row.{byteInside}
+use Rattle.numbers.specs.InnerRow.{byteInside}
 use borrow.Author.Tests.{le-leb, lt-leb, eq-eqb, ne-eqb}
 use borrow.Author.Needs.{needs}
 use Rattle.numbers.proofs.byte_inside.Statement.{statement}

@@ -1,7 +1,7 @@
 -- `numbers::eight` meets its contract: where eight have room, the numbers of the bits that are white, which are 1.
 use mathlib.Core.Path.{_∙_}
-use Rattle.numbers.specs.Row.{numberOfBit}
-use Rattle.numbers.specs.Number.{tableOf}
+use Rattle.numbers.specs.InnerRow.{numberOfBit}
+use Rattle.numbers.specs.Number.{transitionOf}
 use Rattle.numbers.proofs.FilledLaws.{filled-below}
 use borrow.Author.Needs.{needs}
 use Rattle.numbers.proofs.eight.Statement.{statement}
@@ -29,7 +29,7 @@ returns c =
     let s = c .before .before .before .before .before .before .before .before .args in
     c .before .before .eight-of-ones .ensures
     ∙ filled-below (numberOfBit (o .result) (n .result) 1) (numberOfBit (s .old) (s .new) (s .white)) (s .at) 8 (s .numbers .now)
-    (λ k h. λ i. tableOf (o .ensures k h i) (n .ensures k h i))
+    (λ k h. λ i. transitionOf (o .ensures k h i) (n .ensures k h i))
 
 eight-stored-requires : tie.Need-eight-stored-requires
 eight-stored-requires c κs = search needs

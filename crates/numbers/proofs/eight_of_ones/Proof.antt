@@ -5,7 +5,7 @@ use Prim.Native.Nat.{ℕ, _+_, _-_, _≤_}
 use native.Mathlib.Omega.{arith}
 use lib.ListN.{length, set, length-set}
 use Rattle.numbers.specs.Filled.{filled}
-use Rattle.numbers.specs.Row.{numberOfBit}
+use Rattle.numbers.specs.InnerRow.{numberOfBit}
 use Rattle.numbers.proofs.FilledLaws.{filled-more}
 use Rattle.numbers.proofs.BitLaws.{number-of-ones}
 use Rattle.numbers.proofs.eight_of_ones.Statement.{statement}

@@ -5,7 +5,7 @@ use Prim.Native.Nat.{ℕ, _+_, _-_, _≤_}
 use native.Mathlib.Omega.{arith}
 use lib.ListN.{length, set}
 use Rattle.numbers.specs.Filled.{filled}
-use Rattle.numbers.specs.Row.{numberOfBit}
+use Rattle.numbers.specs.InnerRow.{numberOfBit}
 use Rattle.numbers.proofs.FilledLaws.{filled-more, length-filled}
 use Rattle.numbers.proofs.eight_stored.Statement.{statement}
 use Rattle.numbers.proofs.eight_stored.Tie as tie

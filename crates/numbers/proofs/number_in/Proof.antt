@@ -1,6 +1,6 @@
 -- `numbers::number_in` meets its contract, by its two tests and the two bits.
 use borrow.Author.Tests.{le-leb, lt-leb}
-use Rattle.numbers.specs.Row.{numberIn}
+use Rattle.numbers.specs.InnerRow.{numberIn}
 use borrow.Author.Needs.{needs}
 use Rattle.numbers.proofs.number_in.Statement.{statement}
 use Rattle.numbers.proofs.number_in.Tie as tie

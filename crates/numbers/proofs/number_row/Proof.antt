@@ -10,7 +10,7 @@ use Rattle.numbers.specs.declared.Scan.{Scan}
 use Rattle.numbers.specs.declared.Row.{Row}
 use Rattle.numbers.specs.Filled.{filled}
 use Rattle.numbers.specs.Number.{shownAt}
-use Rattle.numbers.specs.Row.{numberIn}
+use Rattle.numbers.specs.InnerRow.{numberIn}
 use Rattle.numbers.proofs.FilledLaws.{filled-on, length-filled}
 use Rattle.numbers.proofs.number_row.Statement.{statement}
 use Rattle.numbers.proofs.number_row.Tie as tie

@@ -6,7 +6,7 @@ use native.Mathlib.Omega.{arith}
 use lib.ListN.{set}
 use Rattle.numbers.specs.Filled.{filled}
 use Rattle.numbers.specs.Number.{shownAt}
-use Rattle.numbers.specs.Row.{numberIn, numberOfBit}
+use Rattle.numbers.specs.InnerRow.{numberIn, numberOfBit}
 use Rattle.numbers.proofs.FilledLaws.{filled-below}
 use Rattle.numbers.proofs.NumberLaws.{whole-fits, whole-numbers}
 use Rattle.numbers.proofs.number_some.Statement.{statement}

@@ -8,7 +8,7 @@ use lib.ListN.{length}
 use Rattle.numbers.specs.declared.Row.{Row}
 use Rattle.numbers.specs.Filled.{filled, rowsFilled}
 use Rattle.numbers.specs.Number.{shownAt, numberOf}
-use Rattle.numbers.specs.Row.{rowAt, numberIn}
+use Rattle.numbers.specs.InnerRow.{rowAt, numberIn}
 use Rattle.numbers.proofs.FilledLaws.{rows-more, filled-same, length-rows}
 use Rattle.numbers.proofs.NumberLaws.{number-by-row}
 use Rattle.numbers.proofs.numbers.Statement.{statement}

@@ -1,6 +1,6 @@
 -- `numbers::row_at` meets its contract, by its four tests.
 use borrow.Author.Tests.{le-leb, lt-leb}
-use Rattle.numbers.specs.Row.{rowAt}
+use Rattle.numbers.specs.InnerRow.{rowAt}
 use borrow.Author.Needs.{needs}
 use Rattle.numbers.proofs.row_at.Statement.{statement}
 use Rattle.numbers.proofs.row_at.Tie as tie

@@ -15,7 +15,7 @@ use Rattle.base.specs.Pick.{pick}
 use Rattle.glass.specs.declared.Transfer.{Transfer}
 use Rattle.pixels.specs.declared.Ready.{Ready}
 use Rattle.pixels.specs.Drive.{movedBy}
-use Rattle.pixels.specs.Ready.{movedReady, slotOf}
+use Rattle.pixels.specs.InnerReady.{movedReady, slotOf}
 use Rattle.pixels.proofs.Machine.{up-fits}
 use Rattle.pixels.proofs.ListLaws.{Changed, changed-none, changed-more, changed-done}
 use Rattle.pixels.proofs.ReadyLaws.{unread, readied, slot-five, slot-bounded, slot-moves}

@@ -2,7 +2,7 @@
 use borrow.Author.Needs.{needs}
 use native.Mathlib.Nat.{div-add-mod}
 use native.Mathlib.Omega.{arith}
-use Rattle.pixels.specs.Guess.{white}
+use Rattle.pixels.specs.InnerGuess.{white}
 use Rattle.pixels.proofs.factor.Statement.{statement}
 use Rattle.pixels.proofs.factor.Tie as tie
 

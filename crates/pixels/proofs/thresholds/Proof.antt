@@ -4,7 +4,7 @@ use Prim.Native.Nat.{ℕ, _-_, _≤_}
 use borrow.Author.Needs.{needs}
 use native.Mathlib.Omega.{arith}
 use lib.ListN.{length-replicate}
-use Rattle.pixels.specs.Guess.{Thresholds}
+use Rattle.pixels.specs.InnerGuess.{Thresholds}
 use Rattle.pixels.proofs.GuessLaws.{more-thresholds}
 use Rattle.pixels.proofs.thresholds.Statement.{statement}
 use Rattle.pixels.proofs.thresholds.Tie as tie

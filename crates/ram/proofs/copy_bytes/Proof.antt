@@ -5,7 +5,7 @@ use native.Mathlib.Omega.{arith}
 use borrow.Author.Needs.{needs}
 use lib.ListN.{length, getD, set, length-set}
 use Rattle.base.proofs.Turns.{turns-more}
-use Rattle.ram.specs.Bytewise.{copiedBytes}
+use Rattle.ram.specs.InnerBytewise.{copiedBytes}
 use Rattle.ram.proofs.copy_bytes.Statement.{statement}
 use Rattle.ram.proofs.copy_bytes.Tie as tie
 

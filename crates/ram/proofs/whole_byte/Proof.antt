@@ -3,7 +3,7 @@ use mathlib.Core.Path.{_≡_, sym, _∙_}
 use Prim.Native.Nat.{_+_}
 use borrow.Author.Tests.{eq-eqb, ne-eqb, not-true, not-false}
 use Rattle.registers.specs.Area.{inside}
-use Rattle.ram.specs.Bytewise.{wholeByte}
+use Rattle.ram.specs.InnerBytewise.{wholeByte}
 use borrow.Author.Needs.{needs}
 use Rattle.ram.proofs.whole_byte.Statement.{statement}
 use Rattle.ram.proofs.whole_byte.Tie as tie

@@ -2,7 +2,7 @@
 use mathlib.Core.Path.{_≡_, ap, _∙_}
 use Prim.Native.Nat.{ℕ, _<_, _≤_, min}
 use native.Mathlib.Omega.{arith}
-use Rattle.capture.specs.Layout.{pixelsOf}
+use Rattle.capture.specs.Layout.{pixelCount}
 use Rattle.showing.specs.Shown.{room}
 use borrow.Author.Needs.{needs}
 use Rattle.showing.proofs.pixels.Statement.{statement}
@@ -23,13 +23,13 @@ pixels-requires c κs = search needs
 returns : tie.Need-returns
 unfolding room
 returns c =
-    let e = c .before .pixels .ensures ∙ ap pixelsOf (c .before .before .config .ensures) in
+    let e = c .before .pixels .ensures ∙ ap pixelCount (c .before .before .config .ensures) in
     (below _ _ e (c .if1 .taken), omega (arith, c .if1 .taken))
 
 returns-2 : tie.Need-returns-2
 unfolding room
 returns-2 c =
-    let e = c .before .pixels .ensures ∙ ap pixelsOf (c .before .before .config .ensures) in
+    let e = c .before .pixels .ensures ∙ ap pixelCount (c .before .before .config .ensures) in
     (above _ _ e (c .if1 .left), omega arith)
 
 pub pixels-spec : {M : Type 1} → statement M

@@ -1,7 +1,7 @@
 -- `uc8253::foreign_contents` meets its contract, by its two tests.
 use Rattle.controller.proofs.Chain.{yes, no}
 use mathlib.Core.Path.{refl, sym, _∙_}
-use Rattle.uc8253.specs.Steps.{seven}
+use Rattle.uc8253.specs.InnerSteps.{seven}
 use borrow.Author.Needs.{needs}
 use Rattle.uc8253.proofs.foreign_contents.Statement.{statement}
 use Rattle.uc8253.proofs.foreign_contents.Tie as tie

@@ -8,7 +8,7 @@ use lib.IntN.{ℤ}
 use Rattle.base.specs.InTurn.{inTurn}
 use Rattle.base.proofs.InTurn.{in-turn-more}
 use Rattle.waveform.specs.Frames.{roundFrames}
-use Rattle.waveform.specs.Progress.{Extends}
+use Rattle.waveform.specs.InnerProgress.{Extends}
 use Rattle.waveform.proofs.ProgressLaws.{extends-none, extends-more}
 use Rattle.waveform.proofs.drive_group.Statement.{statement}
 use Rattle.waveform.proofs.drive_group.Tie as tie

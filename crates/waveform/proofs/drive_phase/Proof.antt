@@ -3,7 +3,7 @@ use mathlib.Core.List.{_++_}
 use lib.ListN.{replicate}
 use Rattle.base.specs.Integer.{up, dn}
 use Rattle.waveform.specs.declared.Progress.{Progress}
-use Rattle.waveform.specs.Progress.{Driven}
+use Rattle.waveform.specs.InnerProgress.{Driven}
 use mathlib.Core.Path.{_≡_, ap, subst⁻¹, _∙_}
 use Prim.Native.Nat.{_+_, _-_, _*_, min}
 use native.Mathlib.Omega.{arith}

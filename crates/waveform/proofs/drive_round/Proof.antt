@@ -10,7 +10,7 @@ use Rattle.base.specs.InTurn.{inTurn}
 use Rattle.base.proofs.InTurn.{in-turn-more}
 use Rattle.waveform.specs.declared.Supply.{Supply}
 use Rattle.waveform.specs.Frames.{driveOf}
-use Rattle.waveform.specs.Progress.{Extends}
+use Rattle.waveform.specs.InnerProgress.{Extends}
 use Rattle.waveform.proofs.ProgressLaws.{extends-none, extends-more}
 use Rattle.waveform.proofs.drive_round.Statement.{statement}
 use Rattle.waveform.proofs.drive_round.Tie as tie

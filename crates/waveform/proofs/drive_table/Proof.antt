@@ -14,7 +14,7 @@ use Rattle.waveform.specs.declared.Supply.{Supply}
 use Rattle.waveform.specs.declared.Progress.{Progress}
 use Rattle.waveform.specs.Tables.{running}
 use Rattle.waveform.specs.Frames.{blank, vcomCodes, groupFrames}
-use Rattle.waveform.specs.Progress.{Driven, Extends}
+use Rattle.waveform.specs.InnerProgress.{Driven, Extends}
 use Rattle.waveform.proofs.TableLaws.{unread, running-few, running-get}
 use Rattle.waveform.proofs.ProgressLaws.{extends-none, extends-more, driven-start}
 use Rattle.waveform.proofs.drive_table.Statement.{statement}

@@ -4,7 +4,7 @@ use mathlib.Core.Path.{_≡_, sym, ap, _∙_}
 use mathlib.Core.Bool.{Bool, false}
 use lib.IntN.{ℤ}
 use Rattle.waveform.specs.declared.Drive.{Drive}
-use Rattle.waveform.specs.Progress.{Drives}
+use Rattle.waveform.specs.InnerProgress.{Drives}
 use Prim.Native.Nat.{_+_, _-_, _*_, min}
 use Rattle.base.specs.Word.{top}
 use Rattle.waveform.specs.Levels.{levelOfCode, floats}

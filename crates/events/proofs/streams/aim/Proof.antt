@@ -1,6 +1,6 @@
 -- `events::streams::aim` meets its contract, by the command under way.
 use mathlib.Core.Path.{sym, subst}
-use Rattle.events.specs.Stretch.{Aims}
+use Rattle.events.specs.InnerStretch.{Aims}
 use Rattle.controller.specs.declared.Current.{Current}
 use borrow.Author.Needs.{needs}
 use Rattle.events.proofs.streams.aim.Statement.{statement}

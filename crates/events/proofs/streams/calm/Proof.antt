@@ -1,5 +1,5 @@
 -- `events::streams::calm` meets its contract, by its tests in order.
-use Rattle.events.specs.Stretch.{calmWith}
+use Rattle.events.specs.InnerStretch.{calmWith}
 use mathlib.Core.Path.{sym, _∙_}
 use borrow.Author.Tests.{not-true, not-false}
 use borrow.Author.Needs.{needs}

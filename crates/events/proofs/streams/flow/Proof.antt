@@ -5,7 +5,7 @@ use borrow.Author.Tests.{not-false}
 use borrow.Author.Needs.{needs}
 use native.Mathlib.Omega.{arith}
 use Rattle.events.specs.Events.{eventAt}
-use Rattle.events.specs.Stretch.{Flows}
+use Rattle.events.specs.InnerStretch.{Flows}
 use Rattle.events.proofs.StreamLaws.{flow-first, flow-more, flow-length}
 use Rattle.events.proofs.streams.flow.Statement.{statement}
 use Rattle.events.proofs.streams.flow.Tie as tie

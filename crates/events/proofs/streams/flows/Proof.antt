@@ -1,5 +1,5 @@
 -- `events::streams::flows` meets its contract, by its two tests.
-use Rattle.events.specs.Stretch.{flowsBy}
+use Rattle.events.specs.InnerStretch.{flowsBy}
 use borrow.Author.Tests.{lt-ltb, le-ltb, eq-eqb, ne-eqb}
 use Rattle.events.proofs.streams.flows.Statement.{statement}
 use Rattle.events.proofs.streams.flows.Tie as tie

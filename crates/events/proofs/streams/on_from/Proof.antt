@@ -1,5 +1,5 @@
 -- `events::streams::on_from` meets its contract, by its test.
-use Rattle.events.specs.Stretch.{onFrom}
+use Rattle.events.specs.InnerStretch.{onFrom}
 use borrow.Author.Tests.{lt-ltb, le-ltb}
 use borrow.Author.Needs.{needs}
 use Rattle.events.proofs.streams.on_from.Statement.{statement}

@@ -1,5 +1,5 @@
 -- `events::streams::put` meets its contract, by its test.
-use Rattle.events.specs.Stretch.{putAt}
+use Rattle.events.specs.InnerStretch.{putAt}
 use borrow.Author.Tests.{lt-ltb, le-ltb}
 use borrow.Author.Needs.{needs}
 use Rattle.events.proofs.streams.put.Statement.{statement}

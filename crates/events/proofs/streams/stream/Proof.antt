@@ -2,7 +2,7 @@
 use mathlib.Core.Path.{sym, ap, subst, _∙_}
 use Rattle.controller.specs.World.{Buffers, buffers, world}
 use Rattle.events.specs.declared.streams.Target.{Target}
-use Rattle.events.specs.Stretch.{calmWith, Aims}
+use Rattle.events.specs.InnerStretch.{calmWith, Aims}
 use Rattle.events.proofs.StreamLaws.{stretch-none, stretch-older, stretch-newer}
 use borrow.Author.Needs.{needs}
 use Rattle.events.proofs.streams.stream.Statement.{statement}

@@ -1,19 +1,19 @@
 -- `exports::taken::current_of` meets its contract: the tests in turn.
-use Rattle.exports.specs.Taken.{currentOf}
+use Rattle.exports.specs.Taken.{currentTaken}
 use borrow.Author.Tests.{ne-eqb}
 use Rattle.exports.proofs.taken.current_of.Statement.{statement}
 use Rattle.exports.proofs.taken.current_of.Tie as tie
 
 returns : tie.Need-returns
-unfolding currentOf
+unfolding currentTaken
 returns c = simp (c .match .keys1)
 
 returns-2 : tie.Need-returns-2
-unfolding currentOf
+unfolding currentTaken
 returns-2 c = simp (c .match .keys2)
 
 returns-3 : tie.Need-returns-3
-unfolding currentOf
+unfolding currentTaken
 returns-3 c = simp (ne-eqb _ _ (c .match .rest .0 .1), ne-eqb _ _ (c .match .rest .1))
 
 pub current-of-spec : {M : Type 1} → statement M

@@ -1,5 +1,5 @@
 -- `exports::taken::taken` meets its contract: each part of its numbers.
-use Rattle.exports.specs.Taken.{takenOf}
+use Rattle.exports.specs.Taken.{recordTaken}
 use borrow.Author.Needs.{needs}
 use Rattle.exports.proofs.taken.taken.Statement.{statement}
 use Rattle.exports.proofs.taken.taken.Tie as tie
@@ -20,7 +20,7 @@ image-of-requires : tie.Need-image-of-requires
 image-of-requires c κs = search needs
 
 returns : tie.Need-returns
-unfolding takenOf
+unfolding recordTaken
 returns c = simp (c .before .image-of .ensures, c .before .before .before .before .operation-of .ensures, c .before .before .before .before .before .before .stage-of .ensures, c .before .before .before .before .before .before .before .mode-of .ensures, c .before .before .before .before .before .before .before .before .before .before .config-of .ensures)
 
 pub taken-spec : {M : Type 1} → statement M

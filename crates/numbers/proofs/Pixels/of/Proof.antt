@@ -1,7 +1,7 @@
 -- `numbers::Pixels::of` meets its contract, field by field.
 use mathlib.Core.Bool.{Bool}
 use Prim.Native.Nat.{ℕ}
-use Rattle.numbers.specs.Number.{pixelsOf}
+use Rattle.numbers.specs.Number.{mappingOf}
 use Rattle.base.specs.Pick.{pick}
 use mathlib.Core.Path.{ap, _∙_}
 use borrow.Author.Needs.{needs}
@@ -30,7 +30,7 @@ white-bit-requires : tie.Need-white-bit-requires
 white-bit-requires c κs = search needs
 
 returns : tie.Need-returns
-unfolding pixelsOf
+unfolding mappingOf
 returns c =
     let s = c .before .before .before .before .before .before .before .args in
     λ i. record {

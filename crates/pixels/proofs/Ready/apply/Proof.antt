@@ -7,7 +7,7 @@ use lib.IntN.{pos}
 use mir.Syntax.{w64}
 use mir.Facts.{toZ-ofZ}
 use Rattle.base.specs.Integer.{up}
-use Rattle.pixels.specs.Ready.{movedReady}
+use Rattle.pixels.specs.InnerReady.{movedReady}
 use Rattle.pixels.proofs.Machine.{up-fits}
 use Rattle.pixels.proofs.Ready.apply.Statement.{statement}
 use Rattle.pixels.proofs.Ready.apply.Tie as tie

@@ -1,6 +1,6 @@
 -- `pixels::Ready::new` meets its contract, callee by callee.
 use borrow.Author.Needs.{needs}
-use Rattle.pixels.specs.Ready.{readyOf}
+use Rattle.pixels.specs.InnerReady.{readyOf}
 use Rattle.pixels.proofs.Ready.new.Statement.{statement}
 use Rattle.pixels.proofs.Ready.new.Tie as tie
 

@@ -4,7 +4,7 @@ use Prim.Native.Nat.{_+_, _-_, _≤_}
 use native.Mathlib.Omega.{arith}
 use Rattle.base.proofs.Turns.{turns-more}
 use Rattle.ram.specs.Plane.{bitOf, withBit}
-use Rattle.ram.specs.Bytewise.{merge}
+use Rattle.ram.specs.InnerBytewise.{merge}
 use Rattle.ram.proofs.ByteLaws.{bit-small, merge-whole}
 use Rattle.ram.proofs.byte.merged.Statement.{statement}
 use Rattle.ram.proofs.byte.merged.Tie as tie

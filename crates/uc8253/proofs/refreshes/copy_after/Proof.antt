@@ -1,5 +1,5 @@
 -- `uc8253::refreshes::copy_after` meets its contract, by the bit that asks for the copy.
-use Rattle.uc8253.specs.Steps.{copiedIf}
+use Rattle.uc8253.specs.InnerSteps.{copiedIf}
 use borrow.Author.Needs.{needs}
 use Rattle.uc8253.proofs.refreshes.copy_after.Statement.{statement}
 use Rattle.uc8253.proofs.refreshes.copy_after.Tie as tie

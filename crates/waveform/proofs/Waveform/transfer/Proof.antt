@@ -10,7 +10,7 @@ use Rattle.base.proofs.Lists.{length-mapped}
 use Rattle.glass.specs.Transfer.{Acts}
 use Rattle.glass.proofs.TransferLaws.{acts-identity}
 use Rattle.waveform.specs.declared.Group.{Group}
-use Rattle.waveform.specs.Tables.{tableAt, counted}
+use Rattle.waveform.specs.Tables.{tableAt, tableFrameCount}
 use Rattle.waveform.specs.Frames.{framesOf}
 use Rattle.waveform.proofs.FramesLaws.{frames-none, frames-length}
 use borrow.Author.Needs.{needs}
@@ -46,9 +46,9 @@ returns-2 : tie.Need-returns-2
 returns-2 c =
     let s = c .before .before .before .before .before .args in
     let ds = framesOf (s .self) (s .positive-drives-black) (s .lut) in
-    let all : c .before .table-frames .result ≡ counted (tableAt (s .self) (s .lut)) =
+    let all : c .before .table-frames .result ≡ tableFrameCount (tableAt (s .self) (s .lut)) =
     c .before .table-frames .ensures .0
-    ∙ ap (λ (t : List (List Group)). counted (getD t (s .lut) [])) (c .before .before .before .tables .ensures) in
+    ∙ ap (λ (t : List (List Group)). tableFrameCount (getD t (s .lut) [])) (c .before .before .before .tables .ensures) in
     let most : length ds ≤ c .before .table-frames .result =
     omega (
       arith,

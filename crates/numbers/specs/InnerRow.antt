@@ -8,7 +8,7 @@ use Rattle.registers.specs.declared.Area.{Area}
 use Rattle.ram.specs.Plane.{bitOf, bitAt}
 use Rattle.numbers.specs.declared.Row.{Row}
 use Rattle.numbers.specs.declared.Scan.{Scan}
-use Rattle.numbers.specs.Number.{tableOf}
+use Rattle.numbers.specs.Number.{transitionOf}
 
 abbrev pub noRow : Row
 noRow = record { row = 0; lo = 1; hi = 0 }
@@ -22,19 +22,19 @@ rowAt a b r =
 
 unfoldable pub numberIn : Row → ℕ → List ℕ → List ℕ → ℕ → ℕ
 numberIn q white old new c =
-    pick (leb (q .lo) c && leb c (q .hi)) (tableOf (eqb (bitAt old c (q .row)) white) (eqb (bitAt new c (q .row)) white)) 255
+    pick (leb (q .lo) c && leb c (q .hi)) (transitionOf (eqb (bitAt old c (q .row)) white) (eqb (bitAt new c (q .row)) white)) 255
 
 -- the number of a pixel that shows bit k of a byte of each plane
 abbrev pub numberOfBit : ℕ → ℕ → ℕ → ℕ → ℕ
-numberOfBit old new white k = tableOf (eqb (bitOf old k) white) (eqb (bitOf new k) white)
+numberOfBit old new white k = transitionOf (eqb (bitOf old k) white) (eqb (bitOf new k) white)
 
 -- a byte begins at column x, and its eight columns lie in the panel and inside the row's
 unfoldable pub byteInside : ℕ → Row → ℕ → Bool
 byteInside count q x = eqb (x % 8) 0 && (leb (x + 8) count && (leb (q .lo) x && leb (x + 7) (q .hi)))
 
 -- the columns of the panel from x on show such a byte in its order
-unfoldable pub wholeByte : Scan → Row → ℕ → Bool
-wholeByte s q x = pick (s .reversed) false (pick (s .straight) (byteInside (s .count) q x) false)
+unfoldable pub eightStraight : Scan → Row → ℕ → Bool
+eightStraight s q x = pick (s .reversed) false (pick (s .straight) (byteInside (s .count) q x) false)
 
 -- some pixels from column x on, and no more than the row has
 pub record Some (n x count : ℕ) : Type 0 where
