@@ -21,7 +21,7 @@ use Rattle.registers.proofs.RangeLaws.{written-in-range}
 use Rattle.ram.specs.Copy.{copied}
 use Rattle.ram.specs.Plane.{bitAt}
 use Rattle.ram.proofs.CopyLaws.{length-copied}
-use Rattle.numbers.specs.declared.Pixels.{Pixels}
+use Rattle.numbers.specs.declared.Mapping.{Mapping}
 use Rattle.numbers.specs.Filled.{rowsFilled}
 use Rattle.numbers.specs.Number.{mappingOf, numberOf, transitionOf, shownAt}
 use Rattle.numbers.proofs.FilledLaws.{length-rows, rows-at}
@@ -116,7 +116,7 @@ table-known old new =
     both Known old (both Known new (table 1 (omega arith) (omega arith)) (table 3 (omega arith) (omega arith)))
     (both Known new (table 2 (omega arith) (omega arith)) (table 4 (omega arith) (omega arith)))
 
-number-known : (q : Pixels) (old new : List ℕ) (x y : ℕ) → Known (numberOf q old new x y)
+number-known : (q : Mapping) (old new : List ℕ) (x y : ℕ) → Known (numberOf q old new x y)
 unfolding numberOf
 number-known q old new x y =
     let c = shownAt (q .columns) (q .active .x0) (q .active .x1) x in

@@ -16,7 +16,7 @@ use Rattle.registers.specs.declared.Area.{Area}
 use Rattle.ram.specs.Plane.{place, bitAt}
 use Rattle.numbers.specs.declared.Scan.{Scan}
 use Rattle.numbers.specs.declared.Row.{Row}
-use Rattle.numbers.specs.declared.Pixels.{Pixels}
+use Rattle.numbers.specs.declared.Mapping.{Mapping}
 use Rattle.numbers.specs.Number.{shownAt, transitionOf, numberOf, someUndriven}
 use Rattle.numbers.specs.InnerRow.{rowAt, numberIn, numberOfBit, byteInside, eightStraight}
 
@@ -82,7 +82,7 @@ module _ (a b : Area) (c r : ℕ) where
       (λ h. rw (areas, h, always, leb-max, leb-min))
       (λ h. rw (areas, h, none-in, never))
 
-pub number-by-row : (p : Pixels) (old new : List ℕ) (y x : ℕ) →
+pub number-by-row : (p : Mapping) (old new : List ℕ) (y x : ℕ) →
     numberIn (rowAt (p .active) (p .area) (shownAt (p .rows) (p .active .y0) (p .active .y1) y)) (p .white) old new
     (shownAt (p .columns) (p .active .x0) (p .active .x1) x)
     ≡ numberOf p old new x y

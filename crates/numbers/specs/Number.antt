@@ -13,10 +13,10 @@ use Rattle.config.specs.declared.Uc8253Geometry.{Uc8253Geometry}
 use Rattle.config.specs.declared.Variant.{Variant}
 use Rattle.ram.specs.Plane.{bitAt}
 use Rattle.numbers.specs.declared.Scan.{Scan}
-use Rattle.numbers.specs.declared.Pixels.{Pixels}
+use Rattle.numbers.specs.declared.Mapping.{Mapping}
 
 -- what the numbers go by: the panel's flags and size, bits 2 and 3 of the first 00 byte, the areas, and the value of white
-unfoldable pub mappingOf : Uc8253Geometry → Registers → Variant → Pixels
+unfoldable pub mappingOf : Uc8253Geometry → Registers → Variant → Mapping
 mappingOf g r v = record {
   columns = record { reversed = g .«columns_reversed»; count = g .sources; straight = bitSet (getD (r .psr) 0 0) 2 };
   rows = record { reversed = g .«rows_reversed»; count = g .gates; straight = bitSet (getD (r .psr) 0 0) 3 };
@@ -44,7 +44,7 @@ unfoldable pub transitionOf : Bool → Bool → ℕ
 transitionOf old new = pick old (pick new 1 3) (pick new 2 4)
 
 -- the number of the pixel in column x and row y of the panel: outside that area or the written one 255
-unfoldable pub numberOf : Pixels → List ℕ → List ℕ → ℕ → ℕ → ℕ
+unfoldable pub numberOf : Mapping → List ℕ → List ℕ → ℕ → ℕ → ℕ
 numberOf p old new x y =
     let c = shownAt (p .columns) (p .active .x0) (p .active .x1) x in
     let r = shownAt (p .rows) (p .active .y0) (p .active .y1) y in

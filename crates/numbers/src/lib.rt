@@ -36,7 +36,7 @@ pub struct Scan {
 }
 
 // What the numbers of a refresh go by.
-pub struct Pixels {
+pub struct Mapping {
     pub columns: Scan,
     pub rows: Scan,
     // The area of start and resolution.
@@ -47,9 +47,9 @@ pub struct Pixels {
     pub white: u8,
 }
 
-impl Pixels {
+impl Mapping {
     // By the panel's flags, the first byte of PSR, the areas, and the bit that CDI makes white.
-    pub fn of(panel: Uc8253Geometry, regs: Registers, variant: Variant) -> Pixels
+    pub fn of(panel: Uc8253Geometry, regs: Registers, variant: Variant) -> Mapping
         ensures { λ r. ⌜ r ≡ mappingOf panel regs variant ⌝ }
     {
         let psr = regs.psr;
@@ -67,7 +67,7 @@ impl Pixels {
         let active = regs.active();
         let area = regs.written();
         let white = white_bit(regs.one_is_white(variant));
-        Pixels {
+        Mapping {
             columns,
             rows,
             active,
@@ -332,7 +332,7 @@ fn number_row(
 }
 
 // The number of each pixel, row by row of the panel.
-pub fn numbers(numbers: &mut [u8], old: &[u8], new: &[u8], p: Pixels)
+pub fn numbers(numbers: &mut [u8], old: &[u8], new: &[u8], p: Mapping)
     ensures { λ r. ⌜ now (numbers .exit)
         ≡ rowsFilled (numberOf p (now (old .entry)) (now (new .entry))) (p .columns .count) (p .rows .count) (now (numbers .entry)) ⌝ }
 {

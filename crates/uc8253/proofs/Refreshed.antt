@@ -12,7 +12,7 @@ use Rattle.waveform.specs.declared.Waveform.{Waveform}
 use Rattle.waveform.specs.Tables.{durationOf}
 use Rattle.registers.specs.declared.Area.{Area}
 use Rattle.registers.specs.Written.{writtenOf}
-use Rattle.numbers.specs.declared.Pixels.{Pixels}
+use Rattle.numbers.specs.declared.Mapping.{Mapping}
 use Rattle.numbers.specs.Filled.{rowsFilled}
 use Rattle.numbers.specs.Number.{mappingOf, numberOf}
 use Rattle.ram.specs.Copy.{copied}
@@ -63,12 +63,12 @@ cut-parts r p q old new states numbers picture rows n states′ picture′ e₀ 
     (λ i. world (e₃ i) (buffers old new (e i) numbers ((e₂ ∙ ap (λ (l : List ℤ). drawn (p .config .optics .«full_swing») l picture) e) i) rows))
 
 -- the numbers by what was worked out of the registers
-noted : (p : Uc8253) (b : Buffers) (px : Pixels) → px ≡ mappingOf (p .config .panel) (p .regs) (p .config .variant)
+noted : (p : Uc8253) (b : Buffers) (px : Mapping) → px ≡ mappingOf (p .config .panel) (p .regs) (p .config .variant)
     → rowsFilled (numberOf px (b .old) (b .new)) (px .columns .count) (px .rows .count) (b .numbers) ≡ numbersNow p b
 unfolding numbersNow mappingOf
-noted p b px e = ap (λ (x : Pixels). rowsFilled (numberOf x (b .old) (b .new)) (x .columns .count) (x .rows .count) (b .numbers)) e
+noted p b px e = ap (λ (x : Mapping). rowsFilled (numberOf x (b .old) (b .new)) (x .columns .count) (x .rows .count) (b .numbers)) e
 
-pub start-parts : (p : Uc8253) (old new : List ℕ) (states : List ℤ) (numbers picture rows : List ℕ) (wf : Waveform) (px : Pixels)
+pub start-parts : (p : Uc8253) (old new : List ℕ) (states : List ℤ) (numbers picture rows : List ℕ) (wf : Waveform) (px : Mapping)
     (ns : List ℕ) (k : RefreshKind) (area : Area) (d end : ℕ)
     → wf ≡ waveformNow p
     → px ≡ mappingOf (p .config .panel) (p .regs) (p .config .variant)

@@ -5,6 +5,7 @@
 // A refused making gives back a record of zeros. No call has a condition: every command, data byte,
 // read, reset edge and time is accepted on every record that is not foreign.
 mod arriving;
+mod changes;
 mod commands;
 mod data_bytes;
 mod making;
@@ -12,7 +13,6 @@ mod questions;
 mod reading;
 mod refreshes;
 mod resets;
-mod telling;
 
 pub use making::power_on;
 pub use making::zeros;

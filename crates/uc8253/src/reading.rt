@@ -2,8 +2,8 @@
 ghost use mathlib.Core.Path.{_≡_};
 ghost use Rattle.controller.specs.Reading as rule;
 ghost use Rattle.controller.specs.Lent.{TurnsRows};
-use crate::telling::tell;
-use crate::telling::with_current;
+use crate::changes::tell;
+use crate::changes::with_current;
 use command::Kind;
 use controller::Active;
 use controller::Current;

@@ -1,8 +1,8 @@
--- `uc8253::telling::tell` meets its contract, callee by callee.
+-- `uc8253::changes::tell` meets its contract, callee by callee.
 use Rattle.controller.specs.Tell.{tell}
 use borrow.Author.Needs.{needs}
-use Rattle.uc8253.proofs.telling.tell.Statement.{statement}
-use Rattle.uc8253.proofs.telling.tell.Tie as tie
+use Rattle.uc8253.proofs.changes.tell.Statement.{statement}
+use Rattle.uc8253.proofs.changes.tell.Tie as tie
 
 report-requires : tie.Need-report-requires
 report-requires c κs = search needs

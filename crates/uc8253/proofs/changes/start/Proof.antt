@@ -1,7 +1,7 @@
--- `uc8253::telling::start` meets its contract, callee by callee.
+-- `uc8253::changes::start` meets its contract, callee by callee.
 use borrow.Author.Needs.{needs}
-use Rattle.uc8253.proofs.telling.start.Statement.{statement}
-use Rattle.uc8253.proofs.telling.start.Tie as tie
+use Rattle.uc8253.proofs.changes.start.Statement.{statement}
+use Rattle.uc8253.proofs.changes.start.Tie as tie
 
 saturating-add-requires : tie.Need-saturating-add-requires
 saturating-add-requires c κs = search needs

@@ -1,12 +1,12 @@
--- `numbers::Pixels::of` meets its contract, field by field.
+-- `numbers::Mapping::of` meets its contract, field by field.
 use mathlib.Core.Bool.{Bool}
 use Prim.Native.Nat.{ℕ}
 use Rattle.numbers.specs.Number.{mappingOf}
 use Rattle.base.specs.Pick.{pick}
 use mathlib.Core.Path.{ap, _∙_}
 use borrow.Author.Needs.{needs}
-use Rattle.numbers.proofs.Pixels.of.Statement.{statement}
-use Rattle.numbers.proofs.Pixels.of.Tie as tie
+use Rattle.numbers.proofs.Mapping.of.Statement.{statement}
+use Rattle.numbers.proofs.Mapping.of.Tie as tie
 
 array-read-first : tie.Need-array-read-first
 array-read-first c = search needs

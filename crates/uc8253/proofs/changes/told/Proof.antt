@@ -1,7 +1,7 @@
--- `uc8253::telling::told` meets its contract, by whether there is one.
+-- `uc8253::changes::told` meets its contract, by whether there is one.
 use borrow.Author.Needs.{needs}
-use Rattle.uc8253.proofs.telling.told.Statement.{statement}
-use Rattle.uc8253.proofs.telling.told.Tie as tie
+use Rattle.uc8253.proofs.changes.told.Statement.{statement}
+use Rattle.uc8253.proofs.changes.told.Tie as tie
 
 enum-told : tie.Need-enum-told
 enum-told c = search needs
