@@ -7,6 +7,18 @@ ghost use mathlib.Core.Path.{_≡_};
 ghost use Prim.Native.Nat.{_+_, _-_, _*_, min, max};
 ghost use Rattle.base.specs.Word.{top};
 
+// The numbers of a pixel's table in a refresh: white stays white, black to white, white to black,
+// black stays black; and a pixel that no table drives.
+pub const WW: u8 = 1;
+
+pub const KW: u8 = 2;
+
+pub const WK: u8 = 3;
+
+pub const KK: u8 = 4;
+
+pub const UNDRIVEN: u8 = 255;
+
 // The largest 64-bit number.
 pub const TOP: u64 = 0xFFFF_FFFF_FFFF_FFFF;
 

@@ -14,6 +14,8 @@ use base::Refusal;
 // Bytes of an event, and where in it the kind and the value stand.
 const EVENT: u64 = 10;
 
+pub const EVENT_BYTES: usize = 10;
+
 const KIND: usize = 8;
 
 const VALUE: usize = 9;
@@ -29,18 +31,22 @@ const LAST_VARIANT: u8 = 1;
 // The three flags.
 const ALL_FLAGS: u8 = 7;
 
-const MOST_PIXELS: usize = 8_000;
+// The largest panel that the program plays, in pixels.
+pub const MOST_PIXELS: usize = 8_000;
+
+// The most events of a file.
+pub const MOST_EVENTS: usize = 6_521;
 
 // The kinds of event.
-const COMMAND: u8 = 1;
+pub const COMMAND: u8 = 1;
 
-const DATA: u8 = 2;
+pub const DATA: u8 = 2;
 
-const READ: u8 = 3;
+pub const READ: u8 = 3;
 
-const RESET: u8 = 4;
+pub const RESET: u8 = 4;
 
-const ADVANCE: u8 = 5;
+pub const ADVANCE: u8 = 5;
 
 // 8: the length is not what the trailer says, or out of range.
 fn broken(file: &[u8]) -> bool

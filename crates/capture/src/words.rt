@@ -8,7 +8,7 @@ ghost use Rattle.capture.specs.Little as spec;
 const MOST: usize = 8;
 
 // The byte k places after a place.
-pub(crate) fn byte(bytes: &[u8], at: usize, k: usize) -> u8
+pub fn byte(bytes: &[u8], at: usize, k: usize) -> u8
     ensures { λ r. ⌜ r ≡ getD (now (bytes .entry)) (at + k) 0 ⌝ }
 {
     if bytes.len() <= at {

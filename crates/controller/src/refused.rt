@@ -12,6 +12,8 @@ use crate::Uc8253;
 use crate::Work;
 use base::greatest;
 use config::Uc8253Config;
+use log::ROWS;
+use ram::PLANE;
 use registers::Area;
 use registers::Pair;
 use registers::Registers;
@@ -28,11 +30,6 @@ const TEN_BITS: u16 = 1_023;
 const MOST_LEVEL: u16 = 15_000;
 
 const MOST_ROWS: u16 = 1_024;
-
-// The bytes of a plane, and the numbers of the rows.
-const PLANE: usize = 60_000;
-
-const ROWS: usize = 5_120;
 
 fn bad_config(config: Uc8253Config) -> bool
     ensures { λ r. ⌜ r ≡ tests.badConfig config ⌝ }

@@ -3,17 +3,11 @@
 //
 // No function has a condition: places past the end of the bytes read as 0, and an answer for which
 // there is no room is not kept.
-mod bytes;
 mod steps;
 mod streams;
 
-pub use steps::ADVANCE;
-pub use steps::COMMAND;
-pub use steps::DATA;
 pub use steps::NO_READ;
 pub use steps::NOTHING;
-pub use steps::READ;
-pub use steps::RESET;
 pub use steps::Stepped;
 pub use steps::read_number;
 pub use steps::step;
@@ -26,13 +20,11 @@ ghost use lib.ListN.{set};
 ghost use Rattle.events.specs.Events as rule;
 ghost use Rattle.events.specs.InnerStretch as stretch;
 use base::Refusal;
-use bytes::byte_at;
+use capture::EVENT_BYTES;
+use capture::byte;
 use capture::little;
 use controller::Uc8253;
 use streams::stream;
-
-// An event has ten bytes.
-pub const EVENT_BYTES: usize = 10;
 
 // What happens at a time; what the value means, if anything, depends on the kind.
 pub struct Event {
@@ -105,8 +97,8 @@ pub fn event_at(events: &[u8], index: usize) -> Event
     }
     let place = index * EVENT_BYTES;
     let time = little(events, place, 8);
-    let kind = byte_at(events, place, 8);
-    let value = byte_at(events, place, 9);
+    let kind = byte(events, place, 8);
+    let value = byte(events, place, 9);
     Event { time, kind, value }
 }
 

@@ -4,6 +4,11 @@ ghost use Rattle.controller.specs.Lent.{Gives, Done};
 ghost use Rattle.events.specs.Events as rule;
 use crate::Event;
 use base::Refusal;
+use capture::ADVANCE;
+use capture::COMMAND;
+use capture::DATA;
+use capture::READ;
+use capture::RESET;
 use controller::Read;
 use controller::Uc8253;
 use uc8253::Answer;
@@ -13,17 +18,6 @@ use uc8253::read_data;
 use uc8253::set_reset;
 use uc8253::write_command;
 use uc8253::write_data;
-
-// The kinds of an event.
-pub const COMMAND: u8 = 1;
-
-pub const DATA: u8 = 2;
-
-pub const READ: u8 = 3;
-
-pub const RESET: u8 = 4;
-
-pub const ADVANCE: u8 = 5;
 
 // The answers that are no byte: a read that gave none, and an event that is no read.
 pub const NOTHING: u16 = 256;

@@ -10,6 +10,9 @@ use diagnostic::MAX_DIAGNOSTICS;
 use diagnostic::ROW;
 use diagnostic::row;
 
+// The numbers of the lent rows: five for each of 1,024 diagnostics.
+pub const ROWS: usize = 5_120;
+
 #[repr(C)]
 pub struct Log {
     // The rows stored since they were last taken.

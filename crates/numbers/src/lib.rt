@@ -9,6 +9,11 @@ ghost use Rattle.ram.specs.Plane.{bitOf};
 ghost use Rattle.numbers.specs.Filled.{filled, rowsFilled};
 ghost use Rattle.numbers.specs.InnerRow.{noRow, rowAt, numberIn, numberOfBit, byteInside, eightStraight, Some};
 ghost use Rattle.numbers.specs.Number.{mappingOf, reversedOf, shownAt, transitionOf, numberOf, someUndriven};
+use base::KK;
+use base::KW;
+use base::UNDRIVEN;
+use base::WK;
+use base::WW;
 use config::Uc8253Geometry;
 use config::Variant;
 use ram::bit;
@@ -18,9 +23,6 @@ use registers::Area;
 use registers::Registers;
 use registers::psr_shl;
 use registers::psr_ud;
-
-// A pixel that no table drives.
-pub const UNDRIVEN: u8 = 255;
 
 // No area has this column or row.
 const NOWHERE: u32 = 65_536;
@@ -119,11 +121,11 @@ fn table_number(old_white: bool, new_white: bool) -> u8
     ensures { λ r. ⌜ r ≡ transitionOf «old_white» «new_white» ⌝ }
 {
     if old_white {
-        if new_white { 1 } else { 3 }
+        if new_white { WW } else { WK }
     } else if new_white {
-        2
+        KW
     } else {
-        4
+        KK
     }
 }
 

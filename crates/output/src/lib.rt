@@ -19,9 +19,6 @@ use glass::PanelImage;
 use log::Log;
 use text::put;
 
-// The bytes of an event.
-pub(crate) const EVENT_BYTES: usize = 10;
-
 // What is written of a capture that is not refused.
 pub enum Form {
     // The lines of document 01.

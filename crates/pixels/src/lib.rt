@@ -12,6 +12,11 @@ ghost use Rattle.pixels.specs.Drive.{driven};
 ghost use Rattle.pixels.specs.InnerReady.{readyOf, Bounded, movedReady, slotOf};
 ghost use Rattle.pixels.specs.Draw.{drawn};
 ghost use Rattle.pixels.specs.InnerGuess.{thresholdOf, Thresholds, white, Scaled};
+use base::KK;
+use base::KW;
+use base::UNDRIVEN;
+use base::WK;
+use base::WW;
 use base::greatest;
 use base::least;
 use base::saturating_add;
@@ -25,18 +30,6 @@ const MOST: u64 = 0x7FFF_FFFF_FFFF_FFFF;
 
 // A move that takes every state past every other: 2^63.
 const PAST: u64 = 0x8000_0000_0000_0000;
-
-// The table numbers of a pixel: white stays white, black to white, white to black, black stays
-// black, and no table.
-const WW: u8 = 1;
-
-const KW: u8 = 2;
-
-const WK: u8 = 3;
-
-const KK: u8 = 4;
-
-const UNDRIVEN: u8 = 255;
 
 // Where no transfer of the four stands.
 const NO_SLOT: usize = 4;

@@ -22,6 +22,9 @@ use registers::Area;
 // Bytes of a row: 800 bits.
 const ROW_BYTES: usize = RAM_SOURCES as usize / 8;
 
+// The bytes of a plane: 800 × 600 bits.
+pub const PLANE: usize = 60_000;
+
 // The largest 16-bit number.
 const LAST: u16 = 0xFFFF;
 

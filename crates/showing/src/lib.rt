@@ -9,21 +9,15 @@ ghost use mathlib.Core.Path.{_≡_};
 ghost use Prim.Native.Nat.{_≤_};
 ghost use Rattle.controller.specs.Lent.{lent};
 ghost use Rattle.showing.specs.Shown.{room, lentFor, lentAnswers, shown};
+use capture::MOST_EVENTS;
+use capture::MOST_PIXELS;
+use log::ROWS;
 use output::Outcome;
 use playback::play;
 use write::write;
 
 // A capture of the largest size and one byte more, so that a larger one is seen to be larger.
 pub const INPUT: usize = 65_537;
-
-// The largest panel, in pixels.
-const PIXELS: usize = 8_000;
-
-// Five numbers for each row that is stored at most.
-const ROWS: usize = 5_120;
-
-// An entry for each event of the largest capture.
-const EVENTS: usize = 6_521;
 
 // The capture in buffers of its panel's size: played, and then written.
 fn play_in(
@@ -62,7 +56,7 @@ fn pixels(file: &[u8]) -> usize
     ensures { λ r. ⌜ (r ≡ room (now (file .entry))) × (r ≤ 8000) ⌝ }
 {
     let n = capture::pixels(capture::config(file));
-    if n < PIXELS { n } else { PIXELS }
+    if n < MOST_PIXELS { n } else { MOST_PIXELS }
 }
 
 // The capture over the two lent planes, which then hold what its last event left in them.
@@ -70,11 +64,11 @@ pub fn show(file: &[u8], form: Form, old: &mut [u8], new: &mut [u8])
     ensures { λ r. ⌜ now (old .exit) ≡ shown (now (file .entry)) (now (old .entry)) (now (new .entry)) .lent .old ⌝ }
     ensures { λ r. ⌜ now (new .exit) ≡ shown (now (file .entry)) (now (old .entry)) (now (new .entry)) .lent .new ⌝ }
 {
-    let mut states = [0i64; PIXELS];
-    let mut numbers = [0u8; PIXELS];
-    let mut picture = [0u8; PIXELS];
+    let mut states = [0i64; MOST_PIXELS];
+    let mut numbers = [0u8; MOST_PIXELS];
+    let mut picture = [0u8; MOST_PIXELS];
     let mut rows = [0u64; ROWS];
-    let mut answers = [0u16; EVENTS];
+    let mut answers = [0u16; MOST_EVENTS];
     let n = pixels(file);
     play_in(
         file,

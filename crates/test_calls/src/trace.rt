@@ -11,22 +11,16 @@ use crate::answers::ours;
 use crate::answers::theirs;
 use crate::digest;
 use base::least;
+use capture::EVENT_BYTES;
+use capture::MOST_PIXELS;
 use controller::Uc8253;
-use events::EVENT_BYTES;
 use events::Event;
 use events::event_at;
 use events::step;
 use libc::STDIN_FILENO;
+use log::ROWS;
+use ram::PLANE;
 use uc8253::power_on;
-
-// The bytes of a plane.
-const PLANE: usize = 60_000;
-
-// The largest panel, in pixels.
-const PIXELS: usize = 8_000;
-
-// Five numbers for each row that is stored at most.
-const ROWS: usize = 5_120;
 
 // The planes are digested after so many events.
 const DIGEST_EVERY: usize = 16;
@@ -161,7 +155,10 @@ fn retrace_in(
 fn pixels(file: &[u8]) -> usize
     ensures { λ r. ⌜ r ≤ 8000 ⌝ }
 {
-    least(capture::pixels(capture::config(file)) as u64, PIXELS as u64) as usize
+    least(
+        capture::pixels(capture::config(file)) as u64,
+        MOST_PIXELS as u64,
+    ) as usize
 }
 
 // The trace of a capture. One that is refused has no events.
@@ -172,9 +169,9 @@ pub(crate) fn retrace(t: Tally, file: &[u8]) -> Tally {
     }
     let mut old = [0u8; PLANE];
     let mut new = [0u8; PLANE];
-    let mut states = [0i64; PIXELS];
-    let mut numbers = [0u8; PIXELS];
-    let mut picture = [0u8; PIXELS];
+    let mut states = [0i64; MOST_PIXELS];
+    let mut numbers = [0u8; MOST_PIXELS];
+    let mut picture = [0u8; MOST_PIXELS];
     let mut rows = [0u64; ROWS];
     let n = pixels(file);
     retrace_in(

@@ -16,13 +16,10 @@ use controller::Uc8253;
 use controller::Work;
 use controller::busy_at;
 use controller::foreign;
+use log::ROWS;
 use log::taken;
 use ram::Found;
-
-// The numbers of the rows, and the bytes of a plane.
-const ROWS: usize = 5_120;
-
-const PLANE: usize = 60_000;
+use ram::PLANE;
 
 // What turned the question back, if anything did, and the answer.
 pub struct Busy {

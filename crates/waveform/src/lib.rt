@@ -33,15 +33,6 @@ const PHASES: usize = 4;
 // The LUTs: 0 drives VCOM (20), 1 to 4 the pixels by their old and new bits (21 to 24).
 pub const LUTS: usize = 5;
 
-// White stays white, black to white, white to black, black stays black.
-pub const LUT_WW: u8 = 1;
-
-pub const LUT_KW: u8 = 2;
-
-pub const LUT_WK: u8 = 3;
-
-pub const LUT_KK: u8 = 4;
-
 // Frames of VCOM_DC that the controller adds at the end of a waveform.
 const TAIL_FRAMES: u64 = 2;
 

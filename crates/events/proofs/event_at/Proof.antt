@@ -19,14 +19,14 @@ mul-place c = search needs
 little-requires : tie.Need-little-requires
 little-requires c κs = search needs
 
-byte-at-requires : tie.Need-byte-at-requires
-byte-at-requires c κs = search needs
+byte-requires : tie.Need-byte-requires
+byte-requires c κs = search needs
 
-byte-at-requires-2 : tie.Need-byte-at-requires-2
-byte-at-requires-2 c κs = search needs
+byte-requires-2 : tie.Need-byte-requires-2
+byte-requires-2 c κs = search needs
 
 returns-3 : tie.Need-returns-3
-returns-3 c = event-read (c .before .before .before .before .before .before .args .events .now) (c .before .before .before .before .before .before .args .index) _ _ _ (c .before .before .little .ensures) (c .before .byte-at .ensures) (c .byte-at2 .ensures)
+returns-3 c = event-read (c .before .before .before .before .before .before .args .events .now) (c .before .before .before .before .before .before .args .index) _ _ _ (c .before .before .little .ensures) (c .before .byte .ensures) (c .byte2 .ensures)
 
 pub event-at-spec : {M : Type 1} → statement M
 event-at-spec =
@@ -37,6 +37,6 @@ event-at-spec =
     returns-2
     mul-place
     little-requires
-    byte-at-requires
-    byte-at-requires-2
+    byte-requires
+    byte-requires-2
     returns-3)
