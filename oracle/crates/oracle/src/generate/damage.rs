@@ -7,7 +7,7 @@ use crate::refusal::Refusal;
 use crate::rng::Rng;
 
 use super::bench::Bench;
-use super::{panel, run};
+use super::{panel, reader};
 
 const LONGEST_SOUND: usize = 60;
 
