@@ -48,7 +48,9 @@ unfoldable pub numberOf : Mapping → List ℕ → List ℕ → ℕ → ℕ → 
 numberOf p old new x y =
     let c = shownAt (p .columns) (p .active .x0) (p .active .x1) x in
     let r = shownAt (p .rows) (p .active .y0) (p .active .y1) y in
-    pick (inside (p .active) c r && inside (p .area) c r) (transitionOf (eqb (bitAt old c r) (p .white)) (eqb (bitAt new c r) (p .white))) 255
+    pick (inside (p .active) c r && inside (p .area) c r)
+    (transitionOf (eqb (bitAt old c r) (p .white)) (eqb (bitAt new c r) (p .white)))
+    255
 
 -- the picture is partial if any number is 255
 abbrev pub someUndriven : List ℕ → Bool
