@@ -2,7 +2,7 @@
 
 use oracle::capture::Capture;
 use oracle::generate::bench::Bench;
-use oracle::generate::trace;
+use oracle::generate::reader;
 use oracle::generate::tables::tables;
 use oracle::generate::window::partial;
 
@@ -17,11 +17,11 @@ fn change(bench: &mut Bench) {
     match bench.rng.below(40) {
         0..=3 => interval(bench),
         4..=6 => partial(bench),
-        7..=9 => trace::stream(bench, DTM2),
-        10 => trace::stream(bench, DTM1),
+        7..=9 => reader::stream(bench, DTM2),
+        10 => reader::stream(bench, DTM1),
         11 => tables(bench),
-        12..=13 => trace::questions(bench),
-        14 => trace::aside(bench),
+        12..=13 => reader::questions(bench),
+        14 => reader::aside(bench),
         _ => {}
     }
 }
@@ -36,18 +36,18 @@ fn interval(bench: &mut Bench) {
 fn refresh(bench: &mut Bench) {
     bench.command(DRF, &[]);
     if bench.rng.chance(8) {
-        trace::cut(bench);
-        trace::wake(bench);
-        trace::initialise(bench);
+        reader::cut(bench);
+        reader::wake(bench);
+        reader::initialise(bench);
     } else {
         bench.settle();
     }
 }
 
 fn many(mut bench: Bench, count: u64) -> Capture {
-    trace::initialise(&mut bench);
-    trace::stream(&mut bench, DTM1);
-    trace::stream(&mut bench, DTM2);
+    reader::initialise(&mut bench);
+    reader::stream(&mut bench, DTM1);
+    reader::stream(&mut bench, DTM2);
     for _ in 0..count {
         change(&mut bench);
         refresh(&mut bench);
@@ -68,7 +68,7 @@ pub fn few_refreshes(mut bench: Bench) -> Capture {
 /// Page after page, as drivers turn them.
 pub fn turns(mut bench: Bench) -> Capture {
     for _ in 0..bench.rng.between(3, 12) {
-        trace::turns(&mut bench);
+        reader::turns(&mut bench);
     }
     bench.capture()
 }
@@ -76,7 +76,7 @@ pub fn turns(mut bench: Bench) -> Capture {
 /// Some read commands with their reads.
 fn ask(bench: &mut Bench) {
     for _ in 0..bench.rng.between(1, 4) {
-        trace::questions(bench);
+        reader::questions(bench);
     }
 }
 
@@ -106,13 +106,13 @@ pub fn counts(mut bench: Bench) -> Capture {
     }
     bench.noise(1);
     bench.reads(2);
-    trace::turns(&mut bench);
+    reader::turns(&mut bench);
     bench.capture()
 }
 
 /// Pixel bytes for the whole written area: noise, or runs of one byte.
 fn plane(bench: &mut Bench, command: u8) {
-    let whole = trace::stream_bytes(bench.area);
+    let whole = reader::stream_bytes(bench.area);
     bench.command(command, &[]);
     if bench.rng.chance(50) {
         bench.noise(whole);
@@ -137,7 +137,7 @@ fn make_sure(bench: &mut Bench) {
 
 /// A few whole pages, with refreshes of windows and of the same page between them.
 pub fn whole(mut bench: Bench) -> Capture {
-    trace::initialise(&mut bench);
+    reader::initialise(&mut bench);
     make_sure(&mut bench);
     for _ in 0..bench.rng.between(1, 2) {
         if bench.rng.chance(30) {
