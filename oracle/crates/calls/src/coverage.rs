@@ -9,8 +9,8 @@ use oracle::rows::KIND_WORDS;
 
 use crate::beside::{Beside, deadline};
 use crate::compare::Watch;
-use crate::traces;
 use crate::steps::Step;
+use crate::traces;
 
 type Section = (&'static str, &'static [&'static str]);
 

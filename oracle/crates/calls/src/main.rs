@@ -7,10 +7,10 @@ mod difference;
 mod keep;
 mod memory;
 mod sample;
-mod traces;
 mod steps;
 #[cfg(test)]
 mod tests;
+mod traces;
 
 use std::io;
 use std::path::Path;
