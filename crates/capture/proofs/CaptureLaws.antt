@@ -1,76 +1,71 @@
 -- The order in which a capture is turned back, and what holds of one that is taken: exactly if it meets none of the refusals.
--- 6,521 events fit, 6,522 do not.
+-- 6,521 events fit, 6,522 do not. 10 comes last, and only the program has it.
 use mathlib.Core.Path.{_≡_, refl, sym, _∙_}
 use mathlib.Core.Bool.{Bool, true, false, _||_, not, true≢false}
 use mathlib.Core.List.{List}
 use Prim.Native.Nat.{ℕ, _+_, _*_, _≤_, _<_, zero-le}
 use native.Mathlib.Omega.{arith}
 use lib.Dec.{eqb, ltb}
-use lib.ListN.{length, take}
+use lib.ListN.{length}
 use lib.Seq.{getD-take}
 use borrow.Author.Tests.{ltb-false, eqb-true, eqb-false, le-ltb, eq-eqb, ne-eqb, not-false}
 use Rattle.base.proofs.Cases.{by-cases}
 use Rattle.config.specs.Refusal.{refusal}
-use Rattle.capture.specs.Layout.{kindAt, valueAt, variantAt, flagsAt, offsetOf, countOf, configIn}
-use Rattle.capture.specs.Refused.{broken, badEvent, tooMany, captureRefused, eventsEnd, Taken}
+use Rattle.capture.specs.Layout.{kindAt, valueAt, variantAt, flagsAt, offsetOf, countOf, configIn, pixelCount}
+use Rattle.capture.specs.Refused.{broken, badEvent, fileRefused, tooMany, captureRefused, Taken}
+use Rattle.capture.specs.Reading.{eventsEnd, eventsOf}
 use Rattle.capture.proofs.ListedLaws.{each-listed, listed-all}
 
--- ---- the order: 8, 9, 1 to 4, 10
+-- ---- the order: 8, 9, 1 to 4; of the program then 10
 module _ (file : List ℕ) where
-  pub broken-first : broken file ≡ true → captureRefused file ≡ 8
-  unfolding captureRefused
+  pub broken-first : broken file ≡ true → fileRefused file ≡ 8
+  unfolding fileRefused
   broken-first b = simp b
 
-  pub event-second : broken file ≡ false → badEvent file ≡ true → captureRefused file ≡ 9
-  unfolding captureRefused
+  pub event-second : broken file ≡ false → badEvent file ≡ true → fileRefused file ≡ 9
+  unfolding fileRefused
   event-second b e = simp (b, e)
 
-  pub config-third : broken file ≡ false → badEvent file ≡ false → (refusal (configIn file) ≡ 0 → ⊥)
-      → captureRefused file ≡ refusal (configIn file)
-  unfolding captureRefused
-  config-third b e r = simp (b, e, ne-eqb _ _ r)
+  pub config-third : broken file ≡ false → badEvent file ≡ false → fileRefused file ≡ refusal (configIn file)
+  unfolding fileRefused
+  config-third b e = simp (b, e)
 
-  pub pixels-last : broken file ≡ false → badEvent file ≡ false → refusal (configIn file) ≡ 0 → tooMany file ≡ true
-      → captureRefused file ≡ 10
+  pub file-before : (fileRefused file ≡ 0 → ⊥) → captureRefused file ≡ fileRefused file
   unfolding captureRefused
-  pixels-last b e r t = simp (b, e, eq-eqb _ _ r, t)
+  file-before r = simp (ne-eqb _ _ r)
 
-  pub none-met : broken file ≡ false → badEvent file ≡ false → refusal (configIn file) ≡ 0 → tooMany file ≡ false → captureRefused file ≡ 0
+  pub pixels-last : fileRefused file ≡ 0 → tooMany (configIn file) ≡ true → captureRefused file ≡ 10
   unfolding captureRefused
-  none-met b e r t = simp (b, e, eq-eqb _ _ r, t)
+  pixels-last r t = simp (eq-eqb _ _ r, t)
+
+  pub none-met : fileRefused file ≡ 0 → tooMany (configIn file) ≡ false → captureRefused file ≡ 0
+  unfolding captureRefused
+  none-met r t = simp (eq-eqb _ _ r, t)
 
 -- ---- what a file that is taken has
 neither : (a b : Bool) → (a || b) ≡ false → (a ≡ false) × (b ≡ false)
 neither true b e = absurd (true≢false e)
 neither false b e = (refl, e)
 
--- none of the four is met
+-- none of the three is met
 record Passed (file : List ℕ) : Type 0 where
   whole : broken file ≡ false
   events : badEvent file ≡ false
   config : refusal (configIn file) ≡ 0
-  pixels : tooMany file ≡ false
 
-zero-passed : (file : List ℕ) → captureRefused file ≡ 0 → Passed file
+zero-passed : (file : List ℕ) → fileRefused file ≡ 0 → Passed file
 zero-passed file z =
     by-cases (broken file)
     (λ b. absurd (eight (sym (broken-first file b) ∙ z)))
     (λ b. by-cases (badEvent file)
     (λ e. absurd (nine (sym (event-second file b e) ∙ z)))
-    (λ e. by-cases (eqb (refusal (configIn file)) 0)
-    (λ r. by-cases (tooMany file)
-    (λ t. absurd (ten (sym (pixels-last file b e (eqb-true _ _ r) t) ∙ z)))
-    (λ t. record { whole = b; events = e; config = eqb-true _ _ r; pixels = t }))
-    (λ r. absurd (eqb-false _ _ r (sym (config-third file b e (eqb-false _ _ r)) ∙ z)))))
+    (λ e. record { whole = b; events = e; config = sym (config-third file b e) ∙ z }))
   where
     eight : _≡_ {A = ℕ} 8 0 → ⊥
     eight e = omega arith
 
     nine : _≡_ {A = ℕ} 9 0 → ⊥
     nine e = omega arith
-
-    ten : _≡_ {A = ℕ} 10 0 → ⊥
-    ten e = omega arith
 
 -- what refusal 8 leaves
 pub record Whole (file : List ℕ) : Type 0 where
@@ -97,8 +92,8 @@ unfolding broken
 unbroken file w = simp (le-ltb _ _ (w .least), le-ltb _ _ (w .most), eq-eqb _ _ (w .offset-is), eq-eqb _ _ (w .length-is))
 
 -- (1) a file that is not refused has all of it
-pub taken : (file : List ℕ) → captureRefused file ≡ 0 → Taken file
-unfolding badEvent tooMany
+pub taken : (file : List ℕ) → fileRefused file ≡ 0 → Taken file
+unfolding badEvent
 taken file z =
     let p = zero-passed file z in
     let w = whole file (p .whole) in
@@ -114,37 +109,61 @@ taken file z =
       flags-most = ltb-false _ _ (flags .0);
       events-listed = each-listed file (countOf file) (not-false _ (flags .1));
       config-taken = p .config;
-      pixels-most = ltb-false _ _ (p .pixels);
     }
 
 -- (2) a file that has all of it is not refused
-pub takes : (file : List ℕ) → Taken file → captureRefused file ≡ 0
-unfolding badEvent tooMany
+pub takes : (file : List ℕ) → Taken file → fileRefused file ≡ 0
+unfolding badEvent
 takes file t =
-    none-met file
+    config-third file
     (unbroken file (record { least = t .least; most = t .most; offset-is = t .offset-is; length-is = t .length-is }))
     (simp (le-ltb _ _ (t .variant-most), le-ltb _ _ (t .flags-most), listed-all file (countOf file) (t .events-listed)))
-    (t .config-taken)
-    (le-ltb _ _ (t .pixels-most))
+    ∙ t .config-taken
+
+-- ---- what the program plays: a file that is taken, of at most 8,000 pixels
+pub plays : (file : List ℕ) → captureRefused file ≡ 0 → (fileRefused file ≡ 0) × (pixelCount (configIn file) ≤ 8000)
+unfolding tooMany
+plays file z =
+    by-cases (eqb (fileRefused file) 0)
+    (λ r. by-cases (ltb 8000 (pixelCount (configIn file)))
+    (λ t. absurd (ten (sym (pixels-last file (eqb-true _ _ r) t) ∙ z)))
+    (λ t. (eqb-true _ _ r, ltb-false _ _ t)))
+    (λ r. absurd (eqb-false _ _ r (sym (file-before file (eqb-false _ _ r)) ∙ z)))
+  where
+    ten : _≡_ {A = ℕ} 10 0 → ⊥
+    ten e = omega arith
+
+pub played : (file : List ℕ) → fileRefused file ≡ 0 → pixelCount (configIn file) ≤ 8000 → captureRefused file ≡ 0
+unfolding tooMany
+played file r h = none-met file r (le-ltb _ _ h)
+
+-- a broken file is turned back by the program as 8
+pub broken-refused : (file : List ℕ) → broken file ≡ true → captureRefused file ≡ 8
+broken-refused file b =
+    let e = broken-first file b in
+    file-before file (λ z. eight (sym e ∙ z)) ∙ e
+  where
+    eight : _≡_ {A = ℕ} 8 0 → ⊥
+    eight e = omega arith
 
 -- ---- the events of any file end inside it
 pub events-within : (file : List ℕ) → eventsEnd file ≤ length file
 unfolding eventsEnd
 events-within file =
-    by-cases (eqb (captureRefused file) 0)
+    by-cases (eqb (fileRefused file) 0)
     (λ z.
     let t = taken file (eqb-true _ _ z) in
     rw z (omega (arith, t .offset-is, t .length-is)))
     (λ z. rw z zero-le)
 
 -- those of a file that is taken end where its configuration begins
-pub events-end : (file : List ℕ) → captureRefused file ≡ 0 → eventsEnd file ≡ offsetOf file
+pub events-end : (file : List ℕ) → fileRefused file ≡ 0 → eventsEnd file ≡ offsetOf file
 unfolding eventsEnd
 events-end file z = rw (eq-eqb _ _ z) (sym (taken file z .offset-is))
 
 -- and they can be read from that part alone
-pub event-in-front : (file : List ℕ) → captureRefused file ≡ 0 → (i : ℕ) → i < countOf file
-    → (kindAt (take (eventsEnd file) file) i ≡ kindAt file i) × (valueAt (take (eventsEnd file) file) i ≡ valueAt file i)
+pub event-in-front : (file : List ℕ) → fileRefused file ≡ 0 → (i : ℕ) → i < countOf file
+    → (kindAt (eventsOf file) i ≡ kindAt file i) × (valueAt (eventsOf file) i ≡ valueAt file i)
 event-in-front file z i h =
     let t = taken file z in
     let e = events-end file z in (
@@ -153,14 +172,14 @@ event-in-front file z i h =
     )
 
 -- 10 × count is exact: at 32 bits it would be 4 here
-pub count-exact : (file : List ℕ) → offsetOf file ≡ 4 → countOf file ≡ 429_496_730 → captureRefused file ≡ 8
+pub count-exact : (file : List ℕ) → offsetOf file ≡ 4 → countOf file ≡ 429_496_730 → fileRefused file ≡ 8
 count-exact file o n =
     by-cases (broken file)
     (broken-first file)
     (λ b. absurd (omega (arith, whole file b .offset-is)))
 
 -- (4) 6,522 events do not fit
-pub too-many-events : (file : List ℕ) → 6522 ≤ countOf file → captureRefused file ≡ 8
+pub too-many-events : (file : List ℕ) → 6522 ≤ countOf file → fileRefused file ≡ 8
 too-many-events file h =
     by-cases (broken file)
     (broken-first file)

@@ -11,9 +11,9 @@ use Rattle.config.specs.declared.Variant.the-variants.{Uc8253}
 use Rattle.config.specs.Refusal.{refusal, emptyPanel, oversizedPanel, swingRefused, periodRefused}
 use Rattle.capture.specs.Little.{little}
 use Rattle.capture.specs.Layout.{kindAt, valueAt, configOf, configIn, offsetOf, countOf}
-use Rattle.capture.specs.Refused.{broken, listed, captureRefused}
+use Rattle.capture.specs.Refused.{broken, listed, fileRefused, captureRefused}
 use Rattle.capture.proofs.Placed.{byte-behind, first-behind, little-behind, config-behind}
-use Rattle.capture.proofs.CaptureLaws.{broken-first, takes}
+use Rattle.capture.proofs.CaptureLaws.{takes, played, broken-refused}
 
 -- ---- the files
 abbrev advance : List ℕ
@@ -109,8 +109,8 @@ module _ (n : ℕ) (h : n ≤ 6521) where
   unfolding refusal emptyPanel oversizedPanel swingRefused periodRefused
   accepted = refl
 
-  -- at most 6,521: taken
-  pub file-taken : captureRefused (file n) ≡ 0
+  -- at most 6,521: taken, and played
+  pub file-taken : fileRefused (file n) ≡ 0
   unfolding listed
   file-taken = takes (file n) (record {
     least = omega (arith, length-file n);
@@ -122,8 +122,10 @@ module _ (n : ℕ) (h : n ≤ 6521) where
     flags-most = rw (offset-length, byte-behind (advances n) (tail n) 1) (omega arith);
     events-listed = λ i l. (let e = event-at n i (tail n) (omega (arith, count-file)) in rw (e .0, e .1));
     config-taken = ap refusal config-file ∙ accepted;
-    pixels-most = rw (config-file) (omega arith);
   })
+
+  pub file-played : captureRefused (file n) ≡ 0
+  file-played = played (file n) file-taken (rw (config-file) (omega arith))
 
 -- beyond: refusal 8
 pub file-refused : (n : ℕ) → 6521 < n → captureRefused (file n) ≡ 8
@@ -131,4 +133,4 @@ unfolding broken
 file-refused n h =
     let long : 65536 < length (file n) = omega (arith, length-file n) in
     let least : 320 ≤ length (file n) = omega (arith, length-file n) in
-    broken-first (file n) (simp (le-ltb _ _ least, lt-ltb _ _ long))
+    broken-refused (file n) (simp (le-ltb _ _ least, lt-ltb _ _ long))

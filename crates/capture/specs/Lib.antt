@@ -1,3 +1,5 @@
 pub mod Little
 pub mod Layout
 pub mod Refused
+pub mod Reading
+pub mod InnerTrailer

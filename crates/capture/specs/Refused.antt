@@ -6,6 +6,7 @@ use Prim.Native.Nat.{ℕ, zero, suc, _+_, _*_, _≤_, _<_}
 use lib.Dec.{eqb, ltb, leb}
 use lib.ListN.{length}
 use Rattle.base.specs.Pick.{pick}
+use Rattle.config.specs.declared.Uc8253Config.{Uc8253Config}
 use Rattle.config.specs.Refusal.{refusal}
 use Rattle.capture.specs.Layout.{kindAt, valueAt, variantAt, flagsAt, offsetOf, countOf, configIn, pixelCount}
 
@@ -38,23 +39,19 @@ badEvent file =
     || (ltb 7 (flagsAt file (offsetOf file))
     || not (allListed file (countOf file)))
 
+-- the number of the first of 8, 9 and 1 to 4 that a file meets, 0 if it meets none
+unfoldable pub fileRefused : List ℕ → ℕ
+fileRefused file = pick (broken file) 8 (pick (badEvent file) 9 (refusal (configIn file)))
+
 -- 10, too many pixels: the program's panel has more than 8,000
-unfoldable pub tooMany : List ℕ → Bool
-tooMany file = ltb 8000 (pixelCount (configIn file))
+unfoldable pub tooMany : Uc8253Config → Bool
+tooMany c = ltb 8000 (pixelCount c)
 
--- the number of the first that is met, 0 if none is
+-- the program's: those of the file, and last 10
 unfoldable pub captureRefused : List ℕ → ℕ
-captureRefused file =
-    pick (broken file) 8 (pick (badEvent file) 9
-    (pick (eqb (refusal (configIn file)) 0)
-    (pick (tooMany file) 10 0)
-    (refusal (configIn file))))
+captureRefused file = pick (eqb (fileRefused file) 0) (pick (tooMany (configIn file)) 10 0) (fileRefused file)
 
--- where the events end: 10 × their count, 0 if the file is refused
-unfoldable pub eventsEnd : List ℕ → ℕ
-eventsEnd file = pick (eqb (captureRefused file) 0) (10 * countOf file) 0
-
--- what a file has that meets none of them
+-- what a file has that meets none of its own
 pub record Taken (file : List ℕ) : Type 0 where
   pub least : 320 ≤ length file
   pub most : length file ≤ 65536
@@ -65,4 +62,3 @@ pub record Taken (file : List ℕ) : Type 0 where
   pub flags-most : flagsAt file (offsetOf file) ≤ 7
   pub events-listed : (i : ℕ) → i < countOf file → listed (kindAt file i) (valueAt file i) ≡ true
   pub config-taken : refusal (configIn file) ≡ 0
-  pub pixels-most : pixelCount (configIn file) ≤ 8000

@@ -4,6 +4,7 @@ ghost use Prim.Native.Nat.{_+_, _-_, _<_};
 ghost use lib.ListN.{length};
 ghost use Rattle.capture.specs.Little.{little};
 ghost use Rattle.capture.specs.Layout as spec;
+ghost use Rattle.capture.specs.InnerTrailer.{Trails};
 use crate::words::byte;
 use crate::words::number;
 use config::FRAME_RATE_CODES;
@@ -14,9 +15,9 @@ use config::Variant;
 use glass::Optics;
 
 // How far the trailer's two numbers lie before the file's end.
-pub(crate) const OFFSET_BACK: usize = 8;
+const OFFSET_BACK: usize = 8;
 
-pub(crate) const COUNT_BACK: usize = 4;
+const COUNT_BACK: usize = 4;
 
 // Where the configuration's parts begin.
 const FLAGS: usize = 1;
@@ -50,8 +51,14 @@ const COLUMNS_REVERSED: u8 = 2;
 
 const POSITIVE_DRIVES_BLACK: u8 = 4;
 
+// The trailer: the offset of the 312 bytes, and how many events there are.
+pub(crate) struct Trailer {
+    pub offset: u64,
+    pub count: u64,
+}
+
 // The number of four bytes that begins so many bytes before the file's end.
-pub(crate) fn word(file: &[u8], back: usize) -> u64
+fn word(file: &[u8], back: usize) -> u64
     ensures { λ r. ⌜ (r ≡ little (now (file .entry)) (length (now (file .entry)) - back) 4) × (r < 4_294_967_296) ⌝ }
 {
     if file.len() < back {
@@ -60,18 +67,12 @@ pub(crate) fn word(file: &[u8], back: usize) -> u64
     number(file, file.len() - back, 4)
 }
 
-// The offset of the 312 bytes, by the trailer.
-pub fn offset(file: &[u8]) -> u64
-    ensures { λ r. ⌜ r ≡ spec.offsetOf (now (file .entry)) ⌝ }
+pub(crate) fn trailer_of(file: &[u8]) -> Trailer
+    ensures { λ r. ⌜ Trails (now (file .entry)) r ⌝ }
 {
-    word(file, OFFSET_BACK)
-}
-
-// The event count, by the trailer.
-pub fn count(file: &[u8]) -> u64
-    ensures { λ r. ⌜ r ≡ spec.countOf (now (file .entry)) ⌝ }
-{
-    word(file, COUNT_BACK)
+    let offset = word(file, OFFSET_BACK);
+    let count = word(file, COUNT_BACK);
+    Trailer { offset, count }
 }
 
 fn variant(b: u8) -> Variant
@@ -150,11 +151,11 @@ fn timing(file: &[u8], at: usize) -> Uc8253Timing
     }
 }
 
-// The configuration where the trailer points.
-pub fn config(file: &[u8]) -> Uc8253Config
-    ensures { λ r. ⌜ r ≡ spec.configIn (now (file .entry)) ⌝ }
+// The 312 bytes from a place on.
+pub(crate) fn config_at(file: &[u8], at: usize) -> Uc8253Config
+    requires { ⌜ at < 4_294_967_296 ⌝ }
+    ensures { λ r. ⌜ r ≡ spec.configOf (now (file .entry)) at ⌝ }
 {
-    let at = word(file, OFFSET_BACK) as usize;
     let variant = variant(byte(file, at, 0));
     let panel = panel(file, at);
     let optics = optics(file, at);
@@ -167,6 +168,14 @@ pub fn config(file: &[u8]) -> Uc8253Config
         timing,
         ambient_celsius,
     }
+}
+
+// The configuration where the trailer points, of any bytes.
+pub fn config(file: &[u8]) -> Uc8253Config
+    ensures { λ r. ⌜ r ≡ spec.configIn (now (file .entry)) ⌝ }
+{
+    let t = trailer_of(file);
+    config_at(file, t.offset as usize)
 }
 
 // The pixels of a panel: sources × gates.

@@ -1,20 +1,23 @@
-// What turns a capture back: 8, 9, 1 to 4, 10, in this order.
+// What turns a capture back: 8, 9, 1 to 4, in this order; and 10, which is the program's alone.
 ghost use mathlib.Core.Path.{_≡_};
 ghost use Prim.Native.Nat.{_<_};
 ghost use Rattle.base.specs.RefusalNumbers.{refusalNumber};
+ghost use Rattle.capture.specs.Layout.{configIn};
 ghost use Rattle.capture.specs.Refused as spec;
-use crate::layout::COUNT_BACK;
-use crate::layout::OFFSET_BACK;
-use crate::layout::config;
+ghost use Rattle.capture.specs.InnerTrailer.{Trails};
+use crate::kinds::ADVANCE;
+use crate::kinds::COMMAND;
+use crate::kinds::DATA;
+use crate::kinds::READ;
+use crate::kinds::RESET;
+use crate::layout::Trailer;
 use crate::layout::pixels;
-use crate::layout::word;
 use crate::words::byte;
 use base::Refusal;
+use config::Uc8253Config;
 
 // Bytes of an event, and where in it the kind and the value stand.
-const EVENT: u64 = 10;
-
-pub const EVENT_BYTES: usize = 10;
+pub(crate) const EVENT: u64 = 10;
 
 const KIND: usize = 8;
 
@@ -37,19 +40,9 @@ pub const MOST_PIXELS: usize = 8_000;
 // The most events of a file.
 pub const MOST_EVENTS: usize = 6_521;
 
-// The kinds of event.
-pub const COMMAND: u8 = 1;
-
-pub const DATA: u8 = 2;
-
-pub const READ: u8 = 3;
-
-pub const RESET: u8 = 4;
-
-pub const ADVANCE: u8 = 5;
-
 // 8: the length is not what the trailer says, or out of range.
-fn broken(file: &[u8]) -> bool
+fn broken(file: &[u8], t: Trailer) -> bool
+    requires { ⌜ Trails (now file) t ⌝ }
     ensures { λ r. ⌜ r ≡ spec.broken (now (file .entry)) ⌝ }
 {
     if file.len() < TAIL as usize {
@@ -58,12 +51,10 @@ fn broken(file: &[u8]) -> bool
     if MOST_BYTES < file.len() {
         return true;
     }
-    let offset = word(file, OFFSET_BACK);
-    let count = word(file, COUNT_BACK);
-    if offset != EVENT * count {
+    if t.offset != EVENT * t.count {
         return true;
     }
-    file.len() as u64 != offset + TAIL
+    file.len() as u64 != t.offset + TAIL
 }
 
 // Whether document 01 lists the kind, and the value for it.
@@ -104,47 +95,38 @@ fn all_listed(file: &[u8], count: u64) -> bool
 }
 
 // 9: a variant, a flag or an event that is not listed.
-fn bad_event(file: &[u8]) -> bool
+fn bad_event(file: &[u8], t: Trailer) -> bool
+    requires { ⌜ Trails (now file) t ⌝ }
     ensures { λ r. ⌜ r ≡ spec.badEvent (now (file .entry)) ⌝ }
 {
-    let at = word(file, OFFSET_BACK) as usize;
+    let at = t.offset as usize;
     if LAST_VARIANT < byte(file, at, 0) {
         return true;
     }
     if ALL_FLAGS < byte(file, at, 1) {
         return true;
     }
-    !all_listed(file, word(file, COUNT_BACK))
+    !all_listed(file, t.count)
 }
 
-// The first refusal that the file meets.
-pub fn refused(file: &[u8]) -> Refusal
-    ensures { λ r. ⌜ refusalNumber r ≡ spec.captureRefused (now (file .entry)) ⌝ }
+// The first refusal that the file meets, whose trailer and configuration are these.
+pub(crate) fn refused(file: &[u8], t: Trailer, config: Uc8253Config) -> Refusal
+    requires { ⌜ Trails (now file) t ⌝ }
+    requires { ⌜ config ≡ configIn (now file) ⌝ }
+    ensures { λ r. ⌜ refusalNumber r ≡ spec.fileRefused (now (file .entry)) ⌝ }
 {
-    if broken(file) {
+    if broken(file, t) {
         return Refusal::BrokenCapture;
     }
-    if bad_event(file) {
+    if bad_event(file, t) {
         return Refusal::BadEvent;
     }
-    let c = config(file);
-    let v = c.validate();
-    if v.none() {
-        if MOST_PIXELS < pixels(c) {
-            return Refusal::TooManyPixels;
-        }
-        return Refusal::Nothing;
-    }
-    v
+    config.validate()
 }
 
-// Where the events end: 10 × their count, 0 for a refused file; never past the file's end.
-pub fn events_end(file: &[u8]) -> usize
-    ensures { λ r. ⌜ r ≡ spec.eventsEnd (now (file .entry)) ⌝ }
+// 10: more pixels than the program plays.
+pub fn too_many(c: Uc8253Config) -> bool
+    ensures { λ r. ⌜ r ≡ spec.tooMany c ⌝ }
 {
-    let r = refused(file);
-    if r.none() {
-        return (EVENT * word(file, COUNT_BACK)) as usize;
-    }
-    0
+    MOST_PIXELS < pixels(c)
 }

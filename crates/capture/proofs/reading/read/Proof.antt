@@ -1,0 +1,65 @@
+-- `capture::reading::read` meets its contract: the trailer and the configuration are those that the tests are of.
+use mathlib.Core.Path.{ap, _∙_}
+use Rattle.base.proofs.RefusalWords.{told}
+use Rattle.capture.specs.Layout.{configIn, configOf}
+use Rattle.capture.specs.Reading.{eventsEnd}
+use borrow.Author.Needs.{needs}
+use Rattle.capture.proofs.reading.read.Statement.{statement}
+use Rattle.capture.proofs.reading.read.Tie as tie
+
+trailer-of-requires : tie.Need-trailer-of-requires
+trailer-of-requires c κs = search needs
+
+config-at-requires : tie.Need-config-at-requires
+config-at-requires c κs = c .trailer-of .ensures .offset-fits
+
+refused-requires : tie.Need-refused-requires
+unfolding configIn
+refused-requires c κs =
+    let t = c .before .trailer-of .ensures in
+    let f = c .before .before .before .args .file .now in
+    (t, c .config-at .ensures ∙ ap (configOf f) (t .offset-is))
+
+none-requires : tie.Need-none-requires
+none-requires c κs = search needs
+
+mul-t7 : tie.Need-mul-t7
+mul-t7 c = search needs
+
+returns : tie.Need-returns
+unfolding configIn eventsEnd
+returns c =
+    let turned = c .before .before .before in
+    let t = turned .before .before .trailer-of .ensures in
+    let f = turned .before .before .before .before .args .file .now in
+    let none = told (c .before .before .none .ensures) (turned .refused .ensures) (c .before .if1 .taken) in
+    record {
+      number-is = turned .refused .ensures;
+      config-is = turned .before .config-at .ensures ∙ ap (configOf f) (t .offset-is);
+      end-is = rw (← t .count-is) (simp none);
+    }
+
+returns-2 : tie.Need-returns-2
+unfolding configIn eventsEnd
+returns-2 c =
+    let turned = c .before .before in
+    let t = turned .before .before .trailer-of .ensures in
+    let f = turned .before .before .before .before .args .file .now in
+    let some = told (c .before .none .ensures) (turned .refused .ensures) (c .if1 .left) in
+    record {
+      number-is = turned .refused .ensures;
+      config-is = turned .before .config-at .ensures ∙ ap (configOf f) (t .offset-is);
+      end-is = simp some;
+    }
+
+pub read-spec : {M : Type 1} → statement M
+read-spec =
+    tie.close
+    (tie.spec
+    trailer-of-requires
+    config-at-requires
+    refused-requires
+    none-requires
+    mul-t7
+    returns
+    returns-2)
