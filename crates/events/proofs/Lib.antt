@@ -4,3 +4,4 @@ pub mod RunLaws
 pub mod Going
 pub mod StreamLaws
 pub mod SomeLaws
+pub mod PlayLaws

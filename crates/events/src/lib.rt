@@ -3,11 +3,12 @@
 //
 // No function has a condition: places past the end of the bytes read as 0, and an answer for which
 // there is no room is not kept.
+mod playing;
 mod steps;
 mod streams;
 
-pub use steps::NO_READ;
-pub use steps::NOTHING;
+pub use playing::Played;
+pub use playing::play;
 pub use steps::Stepped;
 pub use steps::read_number;
 pub use steps::step;
@@ -21,6 +22,7 @@ ghost use Rattle.events.specs.Events as rule;
 ghost use Rattle.events.specs.InnerStretch as stretch;
 use base::Refusal;
 use capture::EVENT_BYTES;
+use capture::NO_READ;
 use capture::byte;
 use capture::little;
 use controller::Uc8253;

@@ -7,6 +7,8 @@ use base::Refusal;
 use capture::ADVANCE;
 use capture::COMMAND;
 use capture::DATA;
+use capture::NO_READ;
+use capture::NOTHING;
 use capture::READ;
 use capture::RESET;
 use controller::Read;
@@ -18,11 +20,6 @@ use uc8253::read_data;
 use uc8253::set_reset;
 use uc8253::write_command;
 use uc8253::write_data;
-
-// The answers that are no byte: a read that gave none, and an event that is no read.
-pub const NOTHING: u16 = 256;
-
-pub const NO_READ: u16 = 257;
 
 // The record after an event, what turned it back, if anything did, and what a read gave.
 pub struct Stepped {

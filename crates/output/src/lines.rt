@@ -9,6 +9,8 @@ ghost use Rattle.output.specs.Units.{readOf, lastOf, linesOf};
 use crate::parts::greys_of;
 use crate::parts::numbers_of;
 use capture::EVENT_BYTES;
+use capture::NO_READ;
+use capture::NOTHING;
 use capture::little;
 use glass::PanelImage;
 use glass::RefreshKind;
@@ -17,11 +19,6 @@ use text::byte;
 use text::decimal;
 use text::number;
 use text::put;
-
-// The answers that are no byte: a read that gave none, and an event that is no read.
-const NOTHING: u16 = 256;
-
-const NO_READ: u16 = 257;
 
 // A refusal, by its number.
 pub(crate) fn refused(text: &mut [u8], held: usize, no: u8) -> usize

@@ -1,0 +1,18 @@
+-- Document 01, "The capture program": a making, and then events, one call after the other.
+use mathlib.Core.List.{List}
+use Prim.Native.Nat.{ℕ}
+use lib.Dec.{eqb}
+use Rattle.base.specs.Pick.{pick}
+use Rattle.config.specs.declared.Uc8253Config.{Uc8253Config}
+use Rattle.controller.specs.World.{World, Buffers, world}
+use Rattle.controller.specs.TurnedBack.{makingRefused}
+use Rattle.controller.specs.Calls.{made, zeros}
+use Rattle.events.specs.Events.{eventsIn, ranTo, answersTo}
+
+-- the record and what is lent after the last event; a refused making returns a record of zeros and changes no lent entry
+unfoldable pub played : Uc8253Config → List ℕ → Buffers → World
+played c events b = pick (eqb (makingRefused c b) 0) (ranTo events (eventsIn events) (made c b)) (world zeros b)
+
+-- the answers to the reads, one entry an event
+unfoldable pub answersPlayed : Uc8253Config → List ℕ → Buffers → List ℕ → List ℕ
+answersPlayed c events b answers = pick (eqb (makingRefused c b) 0) (answersTo events (eventsIn events) (made c b) answers) answers
