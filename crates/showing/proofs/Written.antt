@@ -15,7 +15,9 @@ use Rattle.controller.specs.declared.Uc8253.{Uc8253}
 use Rattle.controller.specs.World.{World, Buffers, world}
 use Rattle.controller.specs.TurnedBack.{lengthsFit, makingRefused}
 use Rattle.controller.specs.Calls.{made}
-use Rattle.playback.specs.Played.{eventsOf, playRefused, played, playedTaken, answersPlayed, answersTaken}
+use Rattle.capture.specs.Reading.{eventsOf}
+use Rattle.events.specs.Played as events
+use Rattle.showing.specs.Played.{playRefused, played, answersPlayed}
 use Rattle.showing.specs.Shown.{lentFor, lentAnswers}
 use Rattle.showing.specs.Output.{unitsPlayed, outputOf, Output}
 
@@ -44,7 +46,7 @@ module _ (file old new o n : List ℕ) (eo : length old ≡ length o) (en : leng
     rows : played file b .lent .rows ≡ played file c .lent .rows
 
   alike : Alike
-  unfolding playRefused answersPlayed answersTaken played playedTaken made
+  unfolding playRefused answersPlayed events.answersPlayed played events.played made
   alike =
       by-cases (eqb (captureRefused file) 0)
       (λ p. by-cases (eqb (makingRefused (configIn file) b) 0)

@@ -8,7 +8,8 @@ use Rattle.output.specs.declared.Outcome.{Outcome}
 use Rattle.output.specs.Units.{unitsOf}
 use Rattle.output.specs.Parts.{unitsFrom}
 use Rattle.controller.specs.World.{Buffers}
-use Rattle.playback.specs.Played.{eventsOf, playRefused, played, answersPlayed}
+use Rattle.capture.specs.Reading.{eventsOf}
+use Rattle.showing.specs.Played.{playRefused, played, answersPlayed}
 use Rattle.showing.specs.Shown.{lentFor, lentAnswers}
 
 -- the number of a refusal, and the record's log and picture, after the last event

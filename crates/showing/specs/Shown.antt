@@ -5,7 +5,7 @@ use lib.IntN.{pos}
 use lib.ListN.{replicate}
 use Rattle.capture.specs.Layout.{configIn, pixelCount}
 use Rattle.controller.specs.World.{World, Buffers, buffers}
-use Rattle.playback.specs.Played.{played}
+use Rattle.showing.specs.Played.{played}
 
 -- a pixel of the panel each, and no more than there is room for
 unfoldable pub room : List ℕ → ℕ

@@ -2,18 +2,23 @@
 // document 01, or the picture as a file that any viewer opens.
 //
 // The text goes through a buffer part by part, so that an output takes few writes.
+mod play;
 mod write;
 
 pub use output::Form;
 ghost use mathlib.Core.Path.{_≡_};
-ghost use Prim.Native.Nat.{_≤_};
+ghost use Prim.Native.Nat.{_≤_, min};
+ghost use Rattle.capture.specs.Layout.{pixelCount};
+ghost use Rattle.capture.specs.Reading.{Reads};
 ghost use Rattle.controller.specs.Lent.{lent};
-ghost use Rattle.showing.specs.Shown.{room, lentFor, lentAnswers, shown};
+ghost use Rattle.showing.specs.Shown.{lentFor, lentAnswers, shown};
+use capture::Capture;
 use capture::MOST_EVENTS;
 use capture::MOST_PIXELS;
+use config::Uc8253Config;
 use log::ROWS;
 use output::Outcome;
-use playback::play;
+use play::play;
 use write::write;
 
 // A capture of the largest size and one byte more, so that a larger one is seen to be larger.
@@ -22,6 +27,7 @@ pub const INPUT: usize = 65_537;
 // The capture in buffers of its panel's size: played, and then written.
 fn play_in(
     file: &[u8],
+    c: Capture,
     form: Form,
     answers: &mut [u16],
     old: &mut [u8],
@@ -31,6 +37,7 @@ fn play_in(
     picture: &mut [u8],
     rows: &mut [u64],
 )
+    requires { ⌜ Reads (now file) c ⌝ }
     requires { ⌜ lent old new states numbers picture rows ≡ lentFor (now file) (now old) (now new) ⌝ }
     requires { ⌜ now answers ≡ lentAnswers ⌝ }
     ensures { λ r. ⌜ now (old .exit) ≡ shown (now (file .entry)) (now (old .entry)) (now (new .entry)) .lent .old ⌝ }
@@ -38,7 +45,7 @@ fn play_in(
 {
     let old_bytes = old.len();
     let new_bytes = new.len();
-    let played = play(file, answers, old, new, states, numbers, picture, rows);
+    let played = play(file, c, answers, old, new, states, numbers, picture, rows);
     let chip = played.chip;
     let turned = played.refused;
     let log = chip.log;
@@ -48,14 +55,25 @@ fn play_in(
         log,
         image,
     };
-    write(file, form, old_bytes, new_bytes, o, answers, picture, rows);
+    let end = c.end;
+    write(
+        file,
+        end,
+        form,
+        old_bytes,
+        new_bytes,
+        o,
+        answers,
+        picture,
+        rows,
+    );
 }
 
-// How many pixels the capture's panel has, and no more than there is room for.
-fn pixels(file: &[u8]) -> usize
-    ensures { λ r. ⌜ (r ≡ room (now (file .entry))) × (r ≤ 8000) ⌝ }
+// How many pixels the panel has, and no more than there is room for.
+fn pixels(config: Uc8253Config) -> usize
+    ensures { λ r. ⌜ (r ≡ min (pixelCount config) 8000) × (r ≤ 8000) ⌝ }
 {
-    let n = capture::pixels(capture::config(file));
+    let n = capture::pixels(config);
     if n < MOST_PIXELS { n } else { MOST_PIXELS }
 }
 
@@ -69,9 +87,12 @@ pub fn show(file: &[u8], form: Form, old: &mut [u8], new: &mut [u8])
     let mut picture = [0u8; MOST_PIXELS];
     let mut rows = [0u64; ROWS];
     let mut answers = [0u16; MOST_EVENTS];
-    let n = pixels(file);
+    let c = capture::read(file);
+    let config = c.config;
+    let n = pixels(config);
     play_in(
         file,
+        c,
         form,
         &mut answers,
         old,

@@ -1,6 +1,7 @@
 // The text of a capture that was played, on standard output.
+ghost use mathlib.Core.Path.{_≡_};
 ghost use Rattle.output.specs.Units.{unitsOf};
-ghost use Rattle.playback.specs.Played.{eventsOf};
+ghost use Rattle.capture.specs.Reading.{eventsEnd, eventsOf};
 ghost use Rattle.showing.specs.Output.{Output, Between};
 use libc::STDERR_FILENO;
 use libc::STDOUT_FILENO;
@@ -65,9 +66,10 @@ fn write_parts(
     }
 }
 
-// What the capture came to.
+// What the capture came to, whose events end there.
 pub(crate) fn write(
     file: &[u8],
+    end: usize,
     form: Form,
     old: usize,
     new: usize,
@@ -76,9 +78,9 @@ pub(crate) fn write(
     picture: &[u8],
     rows: &[u64],
 )
+    requires { ⌜ end ≡ eventsEnd (now file) ⌝ }
     requires { ⌜ Output form (now file) old new (unitsOf form o (eventsOf (now file)) (now answers) (now picture) (now rows)) ⌝ }
 {
-    let end = capture::events_end(file);
     let mut text = [0u8; ROOM];
     write_parts(
         &mut text,

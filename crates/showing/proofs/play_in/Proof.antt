@@ -13,7 +13,17 @@ number-requires : tie.Need-number-requires
 number-requires c κs = search needs
 
 write-requires : tie.Need-write-requires
-write-requires c κs = let a = c .before .before .before .before .before .before .before .before .before .before .before .before .before .before .before .before .before .before .before .before .before .before .before .before .before .before .before .before .before .before .before .before .before .before .before .args in let b : Buffers = buffers (a .old .now) (a .new .now) (a .states .now) (a .numbers .now) (a .picture .now) (a .rows .now) in let e = c .before .before .before .before .before .before .before .before .before .before .before .before .before .before .before .before .before .before .before .before .play .ensures in let s = c .before .before .before .before .before .before .before .before .before .before .before .before .before .before .before .before .before .before .before .before .before .before .before .before .before .before .before .before .before .before .before .before .before .before .before .pre in written (a .form) (a .file .now) (a .old .now) (a .new .now) b (a .answers .now) (s .0) (s .1) _ _ _ _ (e .0 .0) (c .before .before .before .number .ensures ∙ e .0 .1) (e .1)
+write-requires c κs =
+    let made = c .before .before .before .before .before .before .before .before .before .before .before .before .before .before .before .before .before .before .before .before in
+    let start = made .before .before .before .before .before .before .before .before .before .before .before .before .before .before .before in
+    let a = start .args in
+    let s = start .pre in
+    let b : Buffers = buffers (a .old .now) (a .new .now) (a .states .now) (a .numbers .now) (a .picture .now) (a .rows .now) in
+    let e = made .play .ensures in (
+      s .0 .end-is,
+      written (a .form) (a .file .now) (a .old .now) (a .new .now) b (a .answers .now) (s .1 .0) (s .1 .1) _ _ _ _
+          (e .0 .0) (c .before .before .before .number .ensures ∙ e .0 .1) (e .1),
+    )
 
 same-length : tie.Need-same-length
 same-length c = search needs
@@ -37,7 +47,16 @@ same-length-7 : tie.Need-same-length-7
 same-length-7 c = search needs
 
 returns : tie.Need-returns
-returns c = let a = c .before .before .before .before .before .before .before .before .before .before .before .before .before .before .before .before .before .before .before .before .before .before .before .before .before .before .before .before .before .before .before .before .before .before .before .before .args in let b : Buffers = buffers (a .old .now) (a .new .now) (a .states .now) (a .numbers .now) (a .picture .now) (a .rows .now) in let e = c .before .before .before .before .before .before .before .before .before .before .before .before .before .before .before .before .before .before .before .before .before .play .ensures in let s = c .before .before .before .before .before .before .before .before .before .before .before .before .before .before .before .before .before .before .before .before .before .before .before .before .before .before .before .before .before .before .before .before .before .before .before .before .pre in (old-shown (a .form) (a .file .now) (a .old .now) (a .new .now) b (a .answers .now) (s .0) (s .1) _ (e .0 .0), new-shown (a .form) (a .file .now) (a .old .now) (a .new .now) b (a .answers .now) (s .0) (s .1) _ (e .0 .0))
+returns c =
+    let made = c .before .before .before .before .before .before .before .before .before .before .before .before .before .before .before .before .before .before .before .before .before in
+    let start = made .before .before .before .before .before .before .before .before .before .before .before .before .before .before .before in
+    let a = start .args in
+    let s = start .pre in
+    let b : Buffers = buffers (a .old .now) (a .new .now) (a .states .now) (a .numbers .now) (a .picture .now) (a .rows .now) in
+    let e = made .play .ensures in (
+      old-shown (a .form) (a .file .now) (a .old .now) (a .new .now) b (a .answers .now) (s .1 .0) (s .1 .1) _ (e .0 .0),
+      new-shown (a .form) (a .file .now) (a .old .now) (a .new .now) b (a .answers .now) (s .1 .0) (s .1 .1) _ (e .0 .0),
+    )
 
 pub play-in-spec : {M : Type 1} → statement M
 play-in-spec =

@@ -1,11 +1,14 @@
 -- `showing::show` meets its contract: no panel has more pixels than there is room for, and the other buffers are lent as zeros.
-use Rattle.showing.proofs.Zeros.{length-part, lent-zeros}
 use mathlib.Core.Path.{refl}
-use lib.IntN.{ℤ, pos}
 use Prim.Native.Nat.{ℕ}
+use lib.IntN.{ℤ, pos}
+use Rattle.showing.proofs.Zeros.{length-part, room-read, lent-zeros}
 use borrow.Author.Needs.{needs}
 use Rattle.showing.proofs.show.Statement.{statement}
 use Rattle.showing.proofs.show.Tie as tie
+
+read-requires : tie.Need-read-requires
+read-requires c κs = search needs
 
 pixels-requires : tie.Need-pixels-requires
 pixels-requires c κs = search needs
@@ -36,9 +39,11 @@ slice-aggregate-play-in-5 c = search needs
 
 play-in-requires : tie.Need-play-in-requires
 play-in-requires c κs =
-    let a = c .before .before .before .before .before .before .before .before .before .before .before .args in
-    let e = c .before .before .before .before .before .before .before .pixels .ensures in
-    (lent-zeros (a .file .now) (a .old .now) (a .new .now) _ 8000 (e .0) (e .1), refl)
+    let sized = c .before .before .before .before .before .before .before in
+    let taken = sized .before .before in
+    let a = taken .before .before .before .before .args in
+    let n = room-read (a .file .now) _ _ (taken .read .ensures .config-is) (sized .pixels .ensures .0) in
+    (taken .read .ensures, (lent-zeros (a .file .now) (a .old .now) (a .new .now) _ 8000 n (sized .pixels .ensures .1), refl))
 
 same-length : tie.Need-same-length
 same-length c = search needs
@@ -53,6 +58,7 @@ pub show-spec : {M : Type 1} → statement M
 show-spec =
     tie.close
     (tie.spec
+    read-requires
     pixels-requires
     slice-aggregate-play-in
     array-borrow-prefix-states
