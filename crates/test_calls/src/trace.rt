@@ -11,8 +11,11 @@ use crate::answers::ours;
 use crate::answers::theirs;
 use crate::digest;
 use base::least;
+use capture::Capture;
 use capture::EVENT_BYTES;
 use capture::MOST_PIXELS;
+use capture::read;
+use config::Uc8253Config;
 use controller::Uc8253;
 use events::Event;
 use events::event_at;
@@ -117,6 +120,7 @@ fn meet_all(
 fn retrace_in(
     t: Tally,
     file: &[u8],
+    c: Capture,
     old: &mut [u8],
     new: &mut [u8],
     states: &mut [i64],
@@ -124,18 +128,11 @@ fn retrace_in(
     picture: &mut [u8],
     rows: &mut [u64],
 ) -> Tally {
-    let made = power_on(
-        capture::config(file),
-        old,
-        new,
-        states,
-        numbers,
-        picture,
-        rows,
-    );
+    let config = c.config;
+    let made = power_on(config, old, new, states, numbers, picture, rows);
     let chip = made.chip;
     let refused = made.refused;
-    let count = capture::events_end(file) / EVENT_BYTES;
+    let count = c.end / EVENT_BYTES;
     let start = held(t, 0, Which::Refused, refused.number() as u64, 0);
     meet_all(
         start,
@@ -151,21 +148,21 @@ fn retrace_in(
     )
 }
 
-// How many pixels the capture's panel has, and no more than there is room for.
-fn pixels(file: &[u8]) -> usize
+// How many pixels the panel has, and no more than there is room for.
+fn pixels(config: Uc8253Config) -> usize
     ensures { λ r. ⌜ r ≤ 8000 ⌝ }
 {
-    least(
-        capture::pixels(capture::config(file)) as u64,
-        MOST_PIXELS as u64,
-    ) as usize
+    least(capture::pixels(config) as u64, MOST_PIXELS as u64) as usize
 }
 
-// The trace of a capture. One that is refused has no events.
+// The trace of a capture. One that is refused has no events; a panel for which there is no room is
+// refused by its making.
 pub(crate) fn retrace(t: Tally, file: &[u8]) -> Tally {
-    let refused = capture::refused(file).number();
-    if refused != 0 {
-        return held(t, 0, Which::Refused, refused as u64, 0);
+    let c = read(file);
+    let refused = c.refused;
+    let no = refused.number();
+    if no != 0 {
+        return held(t, 0, Which::Refused, no as u64, 0);
     }
     let mut old = [0u8; PLANE];
     let mut new = [0u8; PLANE];
@@ -173,10 +170,12 @@ pub(crate) fn retrace(t: Tally, file: &[u8]) -> Tally {
     let mut numbers = [0u8; MOST_PIXELS];
     let mut picture = [0u8; MOST_PIXELS];
     let mut rows = [0u64; ROWS];
-    let n = pixels(file);
+    let config = c.config;
+    let n = pixels(config);
     retrace_in(
         t,
         file,
+        c,
         &mut old,
         &mut new,
         &mut states[..n],

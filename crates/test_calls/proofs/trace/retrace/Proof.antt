@@ -6,8 +6,8 @@ use borrow.Author.Needs.{needs}
 use Rattle.test_calls.proofs.trace.retrace.Statement.{statement}
 use Rattle.test_calls.proofs.trace.retrace.Tie as tie
 
-refused-requires : tie.Need-refused-requires
-refused-requires c κs = search needs
+read-requires : tie.Need-read-requires
+read-requires c κs = search needs
 
 number-requires : tie.Need-number-requires
 number-requires c κs = search needs
@@ -61,7 +61,7 @@ pub retrace-spec : {M : Type 1} → statement M
 retrace-spec =
     tie.close
     (tie.spec
-    refused-requires
+    read-requires
     number-requires
     cast-held
     held-requires
