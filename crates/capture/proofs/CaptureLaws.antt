@@ -53,6 +53,9 @@ record Passed (file : List ℕ) : Type 0 where
   events : badEvent file ≡ false
   config : refusal (configIn file) ≡ 0
 
+eight : _≡_ {A = ℕ} 8 0 → ⊥
+eight e = omega arith
+
 zero-passed : (file : List ℕ) → fileRefused file ≡ 0 → Passed file
 zero-passed file z =
     by-cases (broken file)
@@ -61,9 +64,6 @@ zero-passed file z =
     (λ e. absurd (nine (sym (event-second file b e) ∙ z)))
     (λ e. record { whole = b; events = e; config = sym (config-third file b e) ∙ z }))
   where
-    eight : _≡_ {A = ℕ} 8 0 → ⊥
-    eight e = omega arith
-
     nine : _≡_ {A = ℕ} 9 0 → ⊥
     nine e = omega arith
 
@@ -120,10 +120,10 @@ takes file t =
     (simp (le-ltb _ _ (t .variant-most), le-ltb _ _ (t .flags-most), listed-all file (countOf file) (t .events-listed)))
     ∙ t .config-taken
 
--- ---- what the program plays: a file that is taken, of at most 8,000 pixels
-pub plays : (file : List ℕ) → captureRefused file ≡ 0 → (fileRefused file ≡ 0) × (pixelCount (configIn file) ≤ 8000)
+-- ---- the program takes exactly the files that are taken and have at most 8,000 pixels
+pub program-taken : (file : List ℕ) → captureRefused file ≡ 0 → (fileRefused file ≡ 0) × (pixelCount (configIn file) ≤ 8000)
 unfolding tooMany
-plays file z =
+program-taken file z =
     by-cases (eqb (fileRefused file) 0)
     (λ r. by-cases (ltb 8000 (pixelCount (configIn file)))
     (λ t. absurd (ten (sym (pixels-last file (eqb-true _ _ r) t) ∙ z)))
@@ -133,18 +133,15 @@ plays file z =
     ten : _≡_ {A = ℕ} 10 0 → ⊥
     ten e = omega arith
 
-pub played : (file : List ℕ) → fileRefused file ≡ 0 → pixelCount (configIn file) ≤ 8000 → captureRefused file ≡ 0
+pub program-takes : (file : List ℕ) → fileRefused file ≡ 0 → pixelCount (configIn file) ≤ 8000 → captureRefused file ≡ 0
 unfolding tooMany
-played file r h = none-met file r (le-ltb _ _ h)
+program-takes file r h = none-met file r (le-ltb _ _ h)
 
 -- a broken file is turned back by the program as 8
 pub broken-refused : (file : List ℕ) → broken file ≡ true → captureRefused file ≡ 8
 broken-refused file b =
     let e = broken-first file b in
     file-before file (λ z. eight (sym e ∙ z)) ∙ e
-  where
-    eight : _≡_ {A = ℕ} 8 0 → ⊥
-    eight e = omega arith
 
 -- ---- the events of any file end inside it
 pub events-within : (file : List ℕ) → eventsEnd file ≤ length file

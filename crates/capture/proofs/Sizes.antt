@@ -13,7 +13,7 @@ use Rattle.capture.specs.Little.{little}
 use Rattle.capture.specs.Layout.{kindAt, valueAt, configOf, configIn, offsetOf, countOf}
 use Rattle.capture.specs.Refused.{broken, listed, fileRefused, captureRefused}
 use Rattle.capture.proofs.Placed.{byte-behind, first-behind, little-behind, config-behind}
-use Rattle.capture.proofs.CaptureLaws.{takes, played, broken-refused}
+use Rattle.capture.proofs.CaptureLaws.{takes, program-takes, broken-refused}
 
 -- ---- the files
 abbrev advance : List ℕ
@@ -125,7 +125,7 @@ module _ (n : ℕ) (h : n ≤ 6521) where
   })
 
   pub file-played : captureRefused (file n) ≡ 0
-  file-played = played (file n) file-taken (rw (config-file) (omega arith))
+  file-played = program-takes (file n) file-taken (rw (config-file) (omega arith))
 
 -- beyond: refusal 8
 pub file-refused : (n : ℕ) → 6521 < n → captureRefused (file n) ≡ 8
