@@ -1,5 +1,4 @@
 pub mod Chain
-pub mod Bytes
 pub mod Parts
 pub mod Glass
 pub mod Sound

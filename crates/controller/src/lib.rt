@@ -1,11 +1,10 @@
-// The controller as a record (mod.rs), handed to each call and back: its parts, and below, a file
-// each, the rules that look at one part alone. The calls themselves are in `uc8253`.
+// The controller as a record (mod.rs), handed to each call and back: its parts. What the calls mean is
+// in specs/; the rules that look at one part alone are in `rules`, the calls themselves in `uc8253`.
 //
 // RAM, glass, picture and diagnostics lie in lent buffers; the decoded tables of a refresh stand
 // beside the operation, since an enum holds no array.
 mod notes;
 mod reads;
-mod refused;
 mod uses;
 
 use command::Kind;
@@ -14,22 +13,12 @@ use glass::PanelImage;
 use glass::RefreshKind;
 use log::Log;
 pub use notes::Note;
-pub use notes::barred;
-pub use notes::closing;
-pub use notes::refresh_note;
 use ram::Cursor;
 pub use reads::Read;
-pub use reads::busy_at;
-pub use reads::driven_byte;
-pub use refused::ends_refresh;
-pub use refused::foreign;
-pub use refused::lengths_fit;
 use registers::Area;
 use registers::Luts;
 use registers::Registers;
 pub use uses::Use;
-pub use uses::counted;
-pub use uses::purpose;
 use waveform::Waveform;
 
 // The reset line and deep sleep.

@@ -4,7 +4,7 @@ use mathlib.Core.List.{List}
 use Prim.Native.Nat.{ℕ}
 use lib.ListN.{length}
 use Rattle.controller.specs.World.{World, Buffers}
-use Rattle.events.specs.Events.{ranTo, answersTo, refusedIn}
+use Rattle.event.specs.Events.{ranTo, answersTo, refusedIn}
 
 pub record Going (bytes : List ℕ) (i : ℕ) (w v : World) (answers₀ answers : List ℕ) (refused : ℕ) : Type 0 where
   pub is : v ≡ ranTo bytes i w

@@ -1,7 +1,4 @@
-pub mod LittleLaws
-pub mod EventLaws
-pub mod RunLaws
+pub mod Stepping
 pub mod Going
-pub mod StreamLaws
 pub mod SomeLaws
 pub mod PlayLaws

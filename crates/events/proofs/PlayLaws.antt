@@ -9,9 +9,9 @@ use Rattle.controller.specs.World.{World, Buffers}
 use Rattle.controller.specs.TurnedBack.{makingRefused}
 use Rattle.controller.specs.Calls.{made}
 use Rattle.controller.proofs.Sound.{sound-made}
-use Rattle.events.specs.Events.{eventsIn, ranTo, answersTo, refusedIn}
+use Rattle.event.specs.Events.{eventsIn, ranTo, answersTo, refusedIn}
 use Rattle.events.specs.Played.{played, answersPlayed}
-use Rattle.events.proofs.RunLaws.{Bytes, run-taken}
+use Rattle.event.proofs.RunLaws.{Bytes, run-taken}
 
 module _ (c : Uc8253Config) (events : List ℕ) (b : Buffers) where
   module _ (h : eqb (makingRefused c b) 0 ≡ false) where

@@ -10,9 +10,9 @@ use borrow.Author.Tests.{eqb-true}
 use Rattle.base.proofs.Cases.{by-cases}
 use Rattle.base.proofs.Turns.{turns-join, turns-same, turns-keep}
 use Rattle.controller.specs.World.{World}
-use Rattle.events.specs.declared.Event.{Event}
-use Rattle.events.specs.Events.{eventsIn, eventAt, eventDone, eventRefused, eventAnswer, ranTo, answersTo, earlier, refusedIn}
-use Rattle.events.specs.InnerStretch.{ranOn, answersOn, refusedOn, Stretch, marked, Goes}
+use Rattle.event.specs.declared.Event.{Event}
+use Rattle.event.specs.Events.{eventsIn, eventAt, eventDone, eventRefused, eventAnswer, ranTo, answersTo, earlier, refusedIn}
+use Rattle.streams.specs.InnerStretch.{ranOn, answersOn, refusedOn, Stretch, marked, Goes}
 use Rattle.events.proofs.Going.{Going}
 
 pub marked-length : (i k : ℕ) (answers : List ℕ) → length (marked i k answers) ≡ length answers
@@ -30,12 +30,12 @@ unfolding refusedOn earlier
 none-refused bytes i zero w h = refl
 none-refused bytes i (suc k) w h = rw (sym (none-refused bytes i k w (λ j l. h j (omega arith)))) (sym (h k (omega arith)))
 
-pub goes-stretch : {bytes : List ℕ} {i k : ℕ} {w v : World} {answers more : List ℕ} → Stretch bytes i k w v → (k ≡ 0 → ⊥)
+pub goes-stretch : {bytes : List ℕ} {i k : ℕ} {w v : World} {answers more : List ℕ} → i < eventsIn bytes → Stretch bytes i k w v → (k ≡ 0 → ⊥)
     → more ≡ marked i k answers → Goes bytes i k w v answers more 0
-goes-stretch {bytes} {i} {k} {w} {v} {answers} s n e =
+goes-stretch {bytes} {i} {k} {w} {v} {answers} h s n e =
     record {
       some = omega (arith, n);
-      within = s .within;
+      within = s .within (omega (arith, h));
       is = s .is;
       gave = e ∙ marked-answers bytes i k w v answers s;
       turned = none-refused bytes i k w (s .taken);

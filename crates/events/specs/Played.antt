@@ -7,7 +7,7 @@ use Rattle.config.specs.declared.Uc8253Config.{Uc8253Config}
 use Rattle.controller.specs.World.{World, Buffers, world}
 use Rattle.controller.specs.TurnedBack.{makingRefused}
 use Rattle.controller.specs.Calls.{made, zeros}
-use Rattle.events.specs.Events.{eventsIn, ranTo, answersTo}
+use Rattle.event.specs.Events.{eventsIn, ranTo, answersTo}
 
 -- the record and what is lent after the last event; a refused making returns a record of zeros and changes no lent entry
 unfoldable pub played : Uc8253Config → List ℕ → Buffers → World

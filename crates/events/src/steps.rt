@@ -1,7 +1,7 @@
 // One event: the call that its kind stands for, with its refusal and what a read gave.
 ghost use mathlib.Core.Path.{_≡_};
 ghost use Rattle.controller.specs.Lent.{Gives, Done};
-ghost use Rattle.events.specs.Events as rule;
+ghost use Rattle.event.specs.Events as rule;
 use crate::Event;
 use base::Refusal;
 use capture::ADVANCE;

@@ -9,7 +9,7 @@ use Rattle.base.specs.Pick.{pick}
 use Rattle.controller.specs.declared.Uc8253.{Uc8253}
 use Rattle.controller.specs.World.{World, Buffers, world}
 use Rattle.controller.specs.Ask.{Ask, Answer, did, refusedBy, answered}
-use Rattle.events.specs.Events.{ran, refused}
+use Rattle.event.specs.Events.{ran, refused}
 use Rattle.exports.specs.declared.handed.Handed.{Handed}
 use Rattle.exports.specs.declared.Given.{Given}
 use Rattle.exports.specs.declared.Asked.{Asked}

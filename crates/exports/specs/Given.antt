@@ -14,7 +14,7 @@ use Rattle.controller.specs.TurnedBack.{foreignRecord, lentFits, makingRefused}
 use Rattle.controller.specs.Calls.{made}
 use Rattle.controller.specs.Ask.{Ask, Answer, nothing, byte, count, low, due, bit, part, did, refusedBy, answered}
 use Rattle.controller.specs.Lent.{Over, before, after}
-use Rattle.events.specs.Events as runs
+use Rattle.event.specs.Events as runs
 use Rattle.exports.specs.declared.Given.{Given}
 use Rattle.exports.specs.declared.Asked.{Asked}
 use Rattle.exports.specs.declared.handed.Handed.{Handed}

@@ -17,9 +17,9 @@ use Rattle.capture.specs.Reading.{eventsEnd, eventsOf, Reads}
 use Rattle.controller.specs.World.{World, Buffers, world}
 use Rattle.controller.specs.TurnedBack.{makingRefused}
 use Rattle.controller.specs.Calls.{made, zeros}
-use Rattle.events.specs.Events.{eventsIn, refusedIn}
+use Rattle.event.specs.Events.{eventsIn, refusedIn}
 use Rattle.events.specs.Played as events
-use Rattle.events.proofs.RunLaws.{Bytes, byte-anywhere}
+use Rattle.event.proofs.RunLaws.{Bytes, byte-anywhere}
 use Rattle.events.proofs.PlayLaws.{play-taken}
 use Rattle.showing.specs.Played.{playRefused, played, answersPlayed}
 

@@ -4,13 +4,12 @@ use mathlib.Core.Bool.{Bool, true, false, true≢false}
 use Rattle.controller.specs.declared.Power.{Power}
 use Rattle.controller.specs.declared.Work.{Work}
 use Rattle.controller.specs.declared.Uc8253.{Uc8253}
-use Rattle.controller.specs.declared.notes.Note.{Note}
 use Rattle.diagnostic.specs.declared.DiagnosticKind.{DiagnosticKind}
 use Rattle.controller.specs.declared.Refresh.{Refresh}
 use Rattle.controller.specs.World.{World, Buffers, world}
 use Rattle.controller.specs.Tell.{tell}
 use Rattle.controller.specs.Arrives.{endedBy}
-use Rattle.controller.specs.Refresh.{refreshedBy, cutRefresh}
+use Rattle.controller.specs.Refresh.{cutRefresh}
 use Rattle.controller.specs.TurnedBack.{cuts}
 use Rattle.controller.specs.Reset.{cutBy, cut, loweredBy, raisedBy, resetEdge}
 
@@ -24,9 +23,6 @@ by-work x w v e h = h ∙ ap (λ (y : Work). endedBy y w) (sym e)
 pub by-cut : (x : Work) (w v : World) → w .chip .operation .work ≡ x → v ≡ cutBy x w → v ≡ cut w
 unfolding cut
 by-cut x w v e h = h ∙ ap (λ (y : Work). cutBy y w) (sym e)
-
-pub by-note : (x y : Note) (w v : World) → y ≡ x → v ≡ refreshedBy x w → v ≡ refreshedBy y w
-by-note x y w v e h = h ∙ ap (λ (z : Note). refreshedBy z w) (sym e)
 
 pub by-fall : (x : Power) (a : Bool) (w v : World) → a ≡ true → w .chip .mode .power ≡ x → v ≡ loweredBy x w → v ≡ resetEdge a w
 unfolding resetEdge

@@ -3,8 +3,4 @@ pub mod Refreshed
 pub mod ByCase
 pub mod Arrived
 pub mod Called
-pub mod Changed
-pub mod Executed
-pub mod PixelByte
 pub mod Refusals
-pub mod FirstWorld

@@ -6,7 +6,6 @@ use Prim.Native.Nat.{ℕ, _≤_}
 use lib.IntN.{ℤ}
 use denote.Ref.{now}
 use Rattle.base.specs.Pick.{pick}
-use Rattle.command.specs.Kinds.{kindOf}
 use Rattle.pixels.specs.States.{most, everyState, everyNumber}
 use Rattle.ram.specs.Copy.{copied}
 use Rattle.registers.specs.declared.Area.{Area}
@@ -18,7 +17,7 @@ use Rattle.controller.specs.World.{World, onChip}
 use Rattle.controller.specs.Setters.{withOperation, withPower, withPowered}
 use Rattle.controller.specs.Lent.{Slice}
 use Rattle.controller.specs.Arrives.{rest, starting}
-use Rattle.controller.specs.Command.{sortedBy, closed}
+use Rattle.controller.specs.Command.{closed}
 use Rattle.controller.specs.Reset.{cut, cleared}
 
 -- 7, or 0
@@ -32,10 +31,6 @@ copiedIf p area old new = pick (copiesNewToOld (p .config .variant) (p .regs)) (
 -- deep sleep
 abbrev pub fallenAsleep : Uc8253 → Uc8253
 fallenAsleep p = withOperation rest (withPower power.Asleep (withPowered false p))
-
--- a command that is not dropped
-abbrev pub accepted : ℕ → World → World
-accepted c w = sortedBy (kindOf c (w .chip .config .variant)) c w
 
 -- out of reset, the line falls; in reset, it rises
 abbrev pub fallen : World → World

@@ -8,13 +8,13 @@ ghost use Rattle.controller.specs.Setters.{withOperation, withPowered};
 ghost use Rattle.controller.specs.TurnedBack.{refreshRuns, endsRefresh};
 ghost use Rattle.controller.specs.Arrives as arrives;
 ghost use Rattle.controller.specs.Lent.{kept, Turns};
-use crate::changes::rested;
 use crate::refreshes::finish_whole;
 use base::greatest;
 use controller::Mode;
 use controller::Power;
 use controller::Uc8253;
 use controller::Work;
+use rules::rested;
 
 fn powered(p: Uc8253, on: bool) -> Uc8253
     ensures { λ r. ⌜ r ≡ withOperation arrives.rest (withPowered on p) ⌝ }

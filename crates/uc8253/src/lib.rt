@@ -5,15 +5,10 @@
 // A refused making gives back a record of zeros. No call has a condition: every command, data byte,
 // read, reset edge and time is accepted on every record that is not foreign.
 mod arriving;
-mod changes;
-mod commands;
-mod data_bytes;
-mod making;
-mod questions;
-mod reading;
 mod refreshes;
 mod resets;
 
+pub use making::Answer;
 pub use making::power_on;
 pub use making::zeros;
 pub use questions::Bit;
@@ -41,26 +36,20 @@ ghost use Rattle.controller.specs.Ask as ask;
 ghost use Rattle.controller.specs.Lent.{lent, Turns, Gives, Called, Answers};
 use arriving::arrive;
 use base::Refusal;
-use commands::command_byte;
+use command_bytes::command_byte;
 use controller::Read;
 use controller::Uc8253;
-use controller::ends_refresh;
-use controller::foreign;
-use controller::lengths_fit;
+use data_bytes::ByteRead;
 use data_bytes::data_byte;
+use data_bytes::read_byte;
 use pixels::all_numbers;
 use pixels::all_states;
-use reading::ByteRead;
-use reading::read_byte;
 use resets::reset_edge;
+use rules::ends_refresh;
+use rules::foreign;
+use rules::lengths_fit;
 
-// The record after a call, and what turned it back, if anything did.
-pub struct Answer {
-    pub chip: Uc8253,
-    pub refused: Refusal,
-}
-
-// The same for a read, with the byte.
+// What a read gives back: the record, what turned it back, and the byte.
 pub struct ReadAnswer {
     pub chip: Uc8253,
     pub refused: Refusal,

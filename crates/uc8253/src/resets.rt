@@ -7,10 +7,8 @@ ghost use Prim.Native.Nat.{ℕ};
 ghost use Rattle.controller.specs.TurnedBack.{refreshRuns, cuts};
 ghost use Rattle.controller.specs.Reset as rule;
 ghost use Rattle.controller.specs.Lent.{kept, Turns};
-use crate::changes::start;
-use crate::changes::tell;
-use crate::commands::close;
 use crate::refreshes::finish_cut;
+use command_bytes::close;
 use controller::Current;
 use controller::Mode;
 use controller::Operation;
@@ -21,6 +19,8 @@ use controller::Work;
 use diagnostic::DiagnosticKind;
 use registers::Luts;
 use registers::Registers;
+use rules::start;
+use rules::tell;
 
 // In mid-refresh the glass keeps what it had reached.
 fn cut(

@@ -1,5 +1,5 @@
 -- `events::earlier` meets its contract: one test.
-use Rattle.events.specs.Events as rule
+use Rattle.event.specs.Events as rule
 use mathlib.Core.Path.{sym, _∙_}
 use borrow.Author.Needs.{needs}
 use Rattle.events.proofs.earlier.Statement.{statement}

@@ -6,7 +6,7 @@ use borrow.Author.Needs.{needs}
 use native.Mathlib.Omega.{arith}
 use lib.ListN.{length, set}
 use Rattle.base.proofs.Turns.{turns-more}
-use Rattle.events.specs.InnerStretch.{marked}
+use Rattle.streams.specs.InnerStretch.{marked}
 use Rattle.events.proofs.SomeLaws.{marked-length}
 use Rattle.events.proofs.mark.Statement.{statement}
 use Rattle.events.proofs.mark.Tie as tie

@@ -10,7 +10,7 @@ stream-requires : tie.Need-stream-requires
 stream-requires c κs = search needs
 
 mark-requires : tie.Need-mark-requires
-mark-requires c κs = omega (arith, c .before .before .before .before .before .before .before .before .stream .ensures .within, c .before .before .before .before .before .before .before .before .before .before .before .before .before .before .before .before .before .before .before .before .before .before .good .1 .0 .0)
+mark-requires c κs = omega (arith, c .before .before .before .before .before .before .before .before .stream .ensures .within (omega (arith, c .before .before .before .before .before .before .before .before .before .before .before .before .before .before .before .before .before .before .before .before .before .before .pre)), c .before .before .before .before .before .before .before .before .before .before .before .before .before .before .before .before .before .before .before .before .before .before .good .1 .0 .0)
 
 same-length : tie.Need-same-length
 same-length c = search needs
@@ -34,7 +34,7 @@ same-length-7 : tie.Need-same-length-7
 same-length-7 c = search needs
 
 returns : tie.Need-returns
-returns c = goes-stretch (c .before .before .before .before .before .before .before .before .before .before .before .stream .ensures) (c .before .before .before .before .if1 .taken) (c .before .before .mark .ensures)
+returns c = goes-stretch (c .before .before .before .before .before .before .before .before .before .before .before .before .before .before .before .before .before .before .before .before .before .before .before .before .before .pre) (c .before .before .before .before .before .before .before .before .before .before .before .stream .ensures) (c .before .before .before .before .if1 .taken) (c .before .before .mark .ensures)
 
 event-at-requires : tie.Need-event-at-requires
 event-at-requires c κs = search needs

@@ -7,8 +7,8 @@ use native.Mathlib.Omega.{arith}
 use lib.ListN.{length}
 use Rattle.controller.specs.World.{world, buffers}
 use Rattle.base.specs.RefusalNumbers.{refusalNumber}
-use Rattle.events.specs.Events.{eventsIn, ranTo, answersTo, refusedIn}
-use Rattle.events.proofs.RunLaws.{answers-length}
+use Rattle.event.specs.Events.{eventsIn, ranTo, answersTo, refusedIn}
+use Rattle.event.proofs.RunLaws.{answers-length}
 use Rattle.events.proofs.Going.{Going, SameLengths, going-first, lengths-first, lengths-more}
 use Rattle.events.proofs.SomeLaws.{going-on}
 use Rattle.events.proofs.run.Statement.{statement}

@@ -1,6 +1,6 @@
 -- `exports::jollanqe_run` meets its contract: the run on the record that was taken; what was handed in, where every event is turned back.
 use Rattle.exports.proofs.Passed.{of-taken, ran-kept, ran-on}
-use Rattle.events.specs.Events.{ran, answers}
+use Rattle.event.specs.Events.{ran, answers}
 use mathlib.Core.Path.{ap, sym, _∙_}
 use Rattle.controller.specs.World.{World, Buffers, buffers}
 use borrow.Author.Needs.{needs}

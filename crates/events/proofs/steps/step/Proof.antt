@@ -2,7 +2,8 @@
 use mathlib.Core.Path.{refl, ap}
 use Rattle.base.specs.declared.refusals.Refusal.the-variants as refusal
 use Rattle.controller.specs.World.{world, buffers}
-use Rattle.events.proofs.EventLaws.{does-command, does-data, does-read, does-reset, does-advance, does-nothing, stepped, numberIn}
+use Rattle.event.proofs.EventLaws.{does-command, does-data, does-read, does-reset, does-advance, does-nothing, numberIn}
+use Rattle.events.proofs.Stepping.{stepped}
 use borrow.Author.Needs.{needs}
 use Rattle.events.proofs.steps.step.Statement.{statement}
 use Rattle.events.proofs.steps.step.Tie as tie

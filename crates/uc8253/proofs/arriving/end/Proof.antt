@@ -81,7 +81,7 @@ same-length-3 : tie.Need-same-length-3
 same-length-3 c = search needs
 
 returns-7 : tie.Need-returns-7
-returns-7 c = λ rows. by-work _ _ _ (c .before .before .before .before .before .before .before .before .before .before .before .work .given .1) (record-of _ (c .rested3 .ensures) ∙ ap (λ (w : World). onChip (withOperation rest) w) (c .before .before .before .before .before .before .finish-whole .ensures rows))
+returns-7 c = λ rows. let g = c .before .before .before .before .before .before .before .before .before .before .before .before .before .before .before .before .before .before .args in let w : World = world (g .p) (buffers (g .old .now) (g .new .now) (g .states .now) (g .numbers .now) (g .picture .now) rows) in by-work _ w _ (c .before .before .before .before .before .before .before .before .before .before .before .work .given .1) (record-of _ (c .rested3 .ensures) ∙ ap (λ (w : World). onChip (withOperation rest) w) (c .before .before .before .before .before .before .finish-whole .ensures rows))
 
 pub end-spec : {M : Type 1} → statement M
 end-spec =
@@ -111,3 +111,5 @@ end-spec =
     same-length-2
     same-length-3
     returns-7)
+
+-- x

@@ -1,0 +1,40 @@
+-- `streams::aim` meets its contract, by the command under way.
+use mathlib.Core.Path.{sym, subst}
+use Rattle.streams.specs.InnerStretch.{Aims}
+use Rattle.controller.specs.declared.Current.{Current}
+use borrow.Author.Needs.{needs}
+use Rattle.streams.proofs.aim.Statement.{statement}
+use Rattle.streams.proofs.aim.Tie as tie
+
+enum-told : tie.Need-enum-told
+enum-told c = search needs
+
+enum-told-2 : tie.Need-enum-told-2
+enum-told-2 c = search needs
+
+enum-known-current : tie.Need-enum-known-current
+enum-known-current c = search needs
+
+target-of-requires : tie.Need-target-of-requires
+target-of-requires c κs = search needs
+
+returns : tie.Need-returns
+returns c = tt
+
+returns-2 : tie.Need-returns-2
+returns-2 c = tt
+
+returns-3 : tie.Need-returns-3
+returns-3 c = subst (λ (x : Current). Aims (c .target-of .result) x) (sym (c .before .before .current .given .1)) (c .target-of .ensures)
+
+pub aim-spec : {M : Type 1} → statement M
+aim-spec =
+    tie.close
+    (tie.spec
+    enum-told
+    enum-told-2
+    enum-known-current
+    target-of-requires
+    returns
+    returns-2
+    returns-3)
