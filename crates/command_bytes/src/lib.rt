@@ -27,28 +27,11 @@ use controller::Work;
 use diagnostic::DiagnosticKind;
 use ram::Cursor;
 use rules::barred;
-use rules::closing;
+use rules::close;
 use rules::start;
 use rules::tell;
-use rules::told;
 use rules::with_current;
 use starts::refresh;
-
-// The command under way ends (another one, or a reset, comes).
-pub fn close(p: Uc8253, rows: &mut [u64]) -> Uc8253
-    ensures { λ r. ⌜ TurnsRows rule.closed p r rows ⌝ }
-{
-    let stage = p.stage;
-    let current = stage.current;
-    match current {
-        Current::Idle => p,
-        Current::Ignoring => p,
-        Current::Active(active) => {
-            let q = told(p, rows, closing(active));
-            with_current(q, Current::Ignoring)
-        }
-    }
-}
 
 // The command is under way, the cursor at the first column and row of the written area.
 fn begin(p: Uc8253, command: u8, kind: Kind) -> Uc8253

@@ -7,6 +7,7 @@ mod notes;
 mod reads;
 mod uses;
 
+use base::Refusal;
 use command::Kind;
 use config::Uc8253Config;
 use glass::PanelImage;
@@ -109,4 +110,10 @@ pub struct Uc8253 {
     pub log: Log,
     // The clock.
     pub now: u64,
+}
+
+// What a call gives back: the record after it, and what turned it back, if anything did.
+pub struct Answer {
+    pub chip: Uc8253,
+    pub refused: Refusal,
 }

@@ -9,6 +9,7 @@ use config::Uc8253Config;
 use config::Uc8253Geometry;
 use config::Uc8253Timing;
 use config::Variant;
+use controller::Answer;
 use controller::Current;
 use controller::Mode;
 use controller::Operation;
@@ -34,12 +35,6 @@ use waveform::Group;
 use waveform::LUTS;
 use waveform::Levels;
 use waveform::Waveform;
-
-// The record after a call, and what turned it back, if anything did.
-pub struct Answer {
-    pub chip: Uc8253,
-    pub refused: Refusal,
-}
 
 fn no_waveform() -> Waveform
     ensures { λ r. ⌜ r ≡ calls.noWaveform ⌝ }

@@ -4,7 +4,9 @@ ghost use mathlib.Core.Path.{_≡_};
 ghost use Rattle.controller.specs.Setters.{withCurrent, withOperation};
 ghost use Rattle.controller.specs.Tell.{tell as tellOf, told as toldOf};
 ghost use Rattle.controller.specs.Arrives as arrives;
+ghost use Rattle.controller.specs.Command.{closed};
 ghost use Rattle.controller.specs.Lent.{TurnsRows};
+use crate::notes::closing;
 use base::saturating_add;
 use controller::Current;
 use controller::Note;
@@ -70,4 +72,20 @@ pub fn start(p: Uc8253, work: Work, ns: u64) -> Uc8253
     let mut q = p;
     q.operation = operation;
     q
+}
+
+// The command under way ends (another one, or a reset, comes).
+pub fn close(p: Uc8253, rows: &mut [u64]) -> Uc8253
+    ensures { λ r. ⌜ TurnsRows closed p r rows ⌝ }
+{
+    let stage = p.stage;
+    let current = stage.current;
+    match current {
+        Current::Idle => p,
+        Current::Ignoring => p,
+        Current::Active(active) => {
+            let q = told(p, rows, closing(active));
+            with_current(q, Current::Ignoring)
+        }
+    }
 }

@@ -6,6 +6,7 @@ mod reads;
 mod refused;
 mod uses;
 
+pub use changes::close;
 pub use changes::rested;
 pub use changes::start;
 pub use changes::tell;

@@ -5,9 +5,6 @@ use borrow.Author.Needs.{needs}
 use Rattle.events.proofs.earlier.Statement.{statement}
 use Rattle.events.proofs.earlier.Tie as tie
 
-none-requires : tie.Need-none-requires
-none-requires c κs = search needs
-
 returns : tie.Need-returns
 unfolding rule.earlier
 returns c = simp (sym (c .before .none .ensures) ∙ c .if1 .taken)
@@ -17,4 +14,4 @@ unfolding rule.earlier
 returns-2 c = simp (sym (c .before .none .ensures) ∙ c .if1 .left)
 
 pub earlier-spec : {M : Type 1} → statement M
-earlier-spec = tie.close (tie.spec none-requires returns returns-2)
+earlier-spec = tie.close (tie.spec (λ c κs. search needs) returns returns-2)

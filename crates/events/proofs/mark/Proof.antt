@@ -23,9 +23,6 @@ loop-holds c = (refl, omega arith)
 add-put : tie.Need-add-put Inv-loop μ-loop
 add-put c = omega (arith, c .before .loop-test .taken, c .before .before .before .before .pre)
 
-put-requires : tie.Need-put-requires Inv-loop μ-loop
-put-requires c κs = search needs
-
 add-k : tie.Need-add-k Inv-loop μ-loop
 add-k c = omega (arith, c .before .before .before .before .loop-test .taken, c .before .before .before .before .before .before .before .pre)
 
@@ -51,7 +48,7 @@ mark-spec =
     μ-loop
     loop-holds
     add-put
-    put-requires
+    (λ c κs. search needs)
     add-k
     loop-less
     loop-again

@@ -30,9 +30,6 @@ loop-holds c = (going-first _ _ _, lengths-first _, omega arith)
 next-events-requires : tie.Need-next-events-requires Inv-loop μ-loop
 next-events-requires c κs = c .before .before .before .before .before .before .before .loop-test .taken
 
-earlier-requires : tie.Need-earlier-requires Inv-loop μ-loop
-earlier-requires c κs = search needs
-
 add-i : tie.Need-add-i Inv-loop μ-loop
 add-i c = omega (arith, c .before .before .before .before .before .before .before .before .before .before .before .before .before .before .before .before .next-events .ensures .within, c .before .before .before .before .before .before .before .before .before .before .before .before .before .before .before .before .before .before .before .before .before .before .before .before .before .before .before .before .before .before .before .before .before .good .1 .0 .0)
 
@@ -74,7 +71,7 @@ run-spec =
     μ-loop
     loop-holds
     next-events-requires
-    earlier-requires
+    (λ c κs. search needs)
     add-i
     loop-less
     loop-again

@@ -4,15 +4,6 @@ use borrow.Author.Needs.{needs}
 use Rattle.exports.proofs.give.Statement.{statement}
 use Rattle.exports.proofs.give.Tie as tie
 
-number-requires : tie.Need-number-requires
-number-requires c κs = search needs
-
-none-requires : tie.Need-none-requires
-none-requires c κs = search needs
-
-hand-over-requires : tie.Need-hand-over-requires
-hand-over-requires c κs = search needs
-
 returns : tie.Need-returns
 returns c = simp (c .hand-over .ensures, c .before .before .before .number .ensures, sym (c .before .before .none .ensures) ∙ c .before .if1 .taken)
 
@@ -20,4 +11,4 @@ returns-2 : tie.Need-returns-2
 returns-2 c = simp (c .before .before .number .ensures, sym (c .before .none .ensures) ∙ c .if1 .left)
 
 pub give-spec : {M : Type 1} → statement M
-give-spec = tie.close (tie.spec number-requires none-requires hand-over-requires returns returns-2)
+give-spec = tie.close (tie.spec (λ c κs. search needs) (λ c κs. search needs) (λ c κs. search needs) returns returns-2)

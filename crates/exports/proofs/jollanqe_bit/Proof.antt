@@ -7,18 +7,9 @@ use borrow.Author.Needs.{needs}
 use Rattle.exports.proofs.jollanqe_bit.Statement.{statement}
 use Rattle.exports.proofs.jollanqe_bit.Tie as tie
 
-taken-requires : tie.Need-taken-requires
-taken-requires c κs = search needs
-
-ram-bit-requires : tie.Need-ram-bit-requires
-ram-bit-requires c κs = search needs
-
-found-asked-requires : tie.Need-found-asked-requires
-found-asked-requires c κs = search needs
-
 returns : tie.Need-returns
 returns c = let g = c .before .before .before .before .args in let a = c .before .ram-bit in (λ b. asked-is (ask.askBit true (g .x) (g .y)) (g .chip) _ (withOld (g .plane .now) b) (c .before .before .taken .ensures) (c .found-asked .ensures) (a .ensures .0 b .0) (a .ensures .0 b .1), λ b. asked-is (ask.askBit false (g .x) (g .y)) (g .chip) _ (withNew (g .plane .now) b) (c .before .before .taken .ensures) (c .found-asked .ensures) (a .ensures .1 b .0) (a .ensures .1 b .1))
 
 pub jollanqe-bit-spec : {M : Type 1} → statement M
 jollanqe-bit-spec =
-    tie.close (tie.spec taken-requires ram-bit-requires found-asked-requires returns)
+    tie.close (tie.spec (λ c κs. search needs) (λ c κs. search needs) (λ c κs. search needs) returns)

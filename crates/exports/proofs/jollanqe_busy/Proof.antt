@@ -6,25 +6,10 @@ use borrow.Author.Needs.{needs}
 use Rattle.exports.proofs.jollanqe_busy.Statement.{statement}
 use Rattle.exports.proofs.jollanqe_busy.Tie as tie
 
-taken-requires : tie.Need-taken-requires
-taken-requires c κs = search needs
-
-busy-pin-requires : tie.Need-busy-pin-requires
-busy-pin-requires c κs = search needs
-
-cast-t6 : tie.Need-cast-t6
-cast-t6 c = search needs
-
-number-requires : tie.Need-number-requires
-number-requires c κs = search needs
-
-none-requires : tie.Need-none-requires
-none-requires c κs = search needs
-
 returns : tie.Need-returns
 returns c = λ b. let g = c .before .before .before .before .before .args in let a = c .before .before .before .busy-pin in asked-is (ask.askBusy (g .at)) (g .chip) _ b (c .before .before .before .before .taken .ensures) (λ i. record { value = as-number (a .result .busy) i; refused = c .before .number .ensures i; known = c .none .ensures i }) (a .ensures b .0) (a .ensures b .1)
 
 pub jollanqe-busy-spec : {M : Type 1} → statement M
 jollanqe-busy-spec =
     tie.close
-    (tie.spec taken-requires busy-pin-requires cast-t6 number-requires none-requires returns)
+    (tie.spec (λ c κs. search needs) (λ c κs. search needs) (λ c. search needs) (λ c κs. search needs) (λ c κs. search needs) returns)

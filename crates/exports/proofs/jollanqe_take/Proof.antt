@@ -9,18 +9,9 @@ use borrow.Author.Needs.{needs}
 use Rattle.exports.proofs.jollanqe_take.Statement.{statement}
 use Rattle.exports.proofs.jollanqe_take.Tie as tie
 
-taken-requires : tie.Need-taken-requires
-taken-requires c κs = search needs
-
-take-diagnostics-requires : tie.Need-take-diagnostics-requires
-take-diagnostics-requires c κs = search needs
-
-give-requires : tie.Need-give-requires
-give-requires c κs = search needs
-
 returns : tie.Need-returns
 returns c = λ b. let g = c .before .before .before .before .before .args in let a = c .before .before .take-diagnostics in let l : Buffers = withRows (g .rows .now) b in given-is ask.taking (g .chip) _ l (c .before .before .before .taken .ensures) {v = world (a .result .chip) l} (c .give .ensures) (a .ensures .0 b) (a .ensures .1 b .0) (ap answerNumber (a .ensures .1 b .1))
 
 pub jollanqe-take-spec : {M : Type 1} → statement M
 jollanqe-take-spec =
-    tie.close (tie.spec taken-requires take-diagnostics-requires give-requires returns)
+    tie.close (tie.spec (λ c κs. search needs) (λ c κs. search needs) (λ c κs. search needs) returns)

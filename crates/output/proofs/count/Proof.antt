@@ -14,21 +14,6 @@ returns c =
     λ answers picture rows.
     sym (ap length (units-refused (a .o) (a .events .now) answers picture rows (a .form) (c .if1 .taken)))
 
-enum-told : tie.Need-enum-told
-enum-told c = search needs
-
-count-requires : tie.Need-count-requires
-count-requires c κs = search needs
-
-enum-told-2 : tie.Need-enum-told-2
-enum-told-2 c = search needs
-
-cast-result : tie.Need-cast-result
-cast-result c = search needs
-
-add-result : tie.Need-add-result
-add-result c = search needs
-
 returns-2 : tie.Need-returns-2
 returns-2 c =
     let test = c .before .before .before in
@@ -53,10 +38,10 @@ count-spec =
     tie.close
     (tie.spec
     returns
-    enum-told
-    count-requires
-    enum-told-2
-    cast-result
-    add-result
+    (λ c. search needs)
+    (λ c κs. search needs)
+    (λ c. search needs)
+    (λ c. search needs)
+    (λ c. search needs)
     returns-2
     returns-3)

@@ -16,17 +16,8 @@ Inv-loop text₀ form o events answers picture rows from end held₀ next₀ tex
 abbrev μ-loop : tie.MeasureT-loop
 μ-loop text₀ form o events answers picture rows from end held₀ next₀ text held next = end - next
 
-count-requires : tie.Need-count-requires Inv-loop μ-loop
-count-requires c κs = search needs
-
 loop-holds : tie.Need-loop-holds Inv-loop μ-loop
 loop-holds c = let a = c .before .before .before .before .before .before .args in (along-start _ (a .from) (a .text .now), search needs)
-
-unit-requires : tie.Need-unit-requires Inv-loop μ-loop
-unit-requires c κs = search needs
-
-same-length : tie.Need-same-length Inv-loop μ-loop
-same-length c = search needs
 
 returns : tie.Need-returns Inv-loop μ-loop
 returns c =
@@ -40,12 +31,6 @@ returns c =
     let l = turn .loop in
     along-full us (a .from) (a .text .now) (l .held) (l .next) (l .text) (l .inv .0) _ _ k p (c .if1 .taken)
 
-add-next : tie.Need-add-next Inv-loop μ-loop
-add-next c = search needs
-
-loop-less : tie.Need-loop-less Inv-loop μ-loop
-loop-less c = search needs
-
 loop-again : tie.Need-loop-again Inv-loop μ-loop
 loop-again c =
     let turn = c .before .before .before .before .before .before in
@@ -57,9 +42,6 @@ loop-again c =
     let p = c .before .before .before .unit .ensures in
     let l = turn .loop in
     (along-more us (a .from) (a .text .now) (l .held) (l .next) (l .text) (l .inv .0) _ _ k p (c .if1 .left), search needs)
-
-same-length-2 : tie.Need-same-length-2 Inv-loop μ-loop
-same-length-2 c = search needs
 
 returns-2 : tie.Need-returns-2 Inv-loop μ-loop
 returns-2 c =
@@ -77,13 +59,13 @@ next-part-spec =
     (tie.spec
     Inv-loop
     μ-loop
-    count-requires
+    (λ c κs. search needs)
     loop-holds
-    unit-requires
-    same-length
+    (λ c κs. search needs)
+    (λ c. search needs)
     returns
-    add-next
-    loop-less
+    (λ c. search needs)
+    (λ c. search needs)
     loop-again
-    same-length-2
+    (λ c. search needs)
     returns-2)

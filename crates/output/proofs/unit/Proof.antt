@@ -9,12 +9,6 @@ use borrow.Author.Needs.{needs}
 use Rattle.output.proofs.unit.Statement.{statement}
 use Rattle.output.proofs.unit.Tie as tie
 
-refused-requires : tie.Need-refused-requires
-refused-requires c κs = search needs
-
-same-length : tie.Need-same-length
-same-length c = search needs
-
 returns : tie.Need-returns
 returns c =
     let test = c .before .before .before .before in
@@ -22,21 +16,6 @@ returns c =
     puts-as (c .before .before .refused .ensures)
     (ap (λ (us : List (List ℕ)). getD us (a .i) [])
     (sym (units-refused (a .o) (a .events .now) (a .answers .now) (a .picture .now) (a .rows .now) (a .form) (test .if1 .taken))))
-
-enum-told : tie.Need-enum-told
-enum-told c = search needs
-
-unit-requires : tie.Need-unit-requires
-unit-requires c κs = search needs
-
-enum-told-2 : tie.Need-enum-told-2
-enum-told-2 c = search needs
-
-unit-requires-2 : tie.Need-unit-requires-2
-unit-requires-2 c κs = search needs
-
-same-length-2 : tie.Need-same-length-2
-same-length-2 c = search needs
 
 returns-2 : tie.Need-returns-2
 returns-2 c =
@@ -47,9 +26,6 @@ returns-2 c =
     puts-as (c .before .before .unit .ensures)
     (ap (λ (us : List (List ℕ)). getD us (a .i) [])
     (sym (units-lines (a .o) (a .events .now) (a .answers .now) (a .picture .now) (a .rows .now) (test .if1 .left) (a .form) e)))
-
-same-length-3 : tie.Need-same-length-3
-same-length-3 c = search needs
 
 returns-3 : tie.Need-returns-3
 returns-3 c =
@@ -65,14 +41,14 @@ pub unit-spec : {M : Type 1} → statement M
 unit-spec =
     tie.close
     (tie.spec
-    refused-requires
-    same-length
+    (λ c κs. search needs)
+    (λ c. search needs)
     returns
-    enum-told
-    unit-requires
-    enum-told-2
-    unit-requires-2
-    same-length-2
+    (λ c. search needs)
+    (λ c κs. search needs)
+    (λ c. search needs)
+    (λ c κs. search needs)
+    (λ c. search needs)
     returns-2
-    same-length-3
+    (λ c. search needs)
     returns-3)

@@ -6,12 +6,6 @@ use borrow.Author.Needs.{needs}
 use Rattle.showing.proofs.play_in.Statement.{statement}
 use Rattle.showing.proofs.play_in.Tie as tie
 
-play-requires : tie.Need-play-requires
-play-requires c κs = search needs
-
-number-requires : tie.Need-number-requires
-number-requires c κs = search needs
-
 write-requires : tie.Need-write-requires
 write-requires c κs =
     let made = c .before .before .before .before .before .before .before .before .before .before .before .before .before .before .before .before .before .before .before .before in
@@ -24,27 +18,6 @@ write-requires c κs =
       written (a .form) (a .file .now) (a .old .now) (a .new .now) b (a .answers .now) (s .1 .0) (s .1 .1) _ _ _ _
           (e .0 .0) (c .before .before .before .number .ensures ∙ e .0 .1) (e .1),
     )
-
-same-length : tie.Need-same-length
-same-length c = search needs
-
-same-length-2 : tie.Need-same-length-2
-same-length-2 c = search needs
-
-same-length-3 : tie.Need-same-length-3
-same-length-3 c = search needs
-
-same-length-4 : tie.Need-same-length-4
-same-length-4 c = search needs
-
-same-length-5 : tie.Need-same-length-5
-same-length-5 c = search needs
-
-same-length-6 : tie.Need-same-length-6
-same-length-6 c = search needs
-
-same-length-7 : tie.Need-same-length-7
-same-length-7 c = search needs
 
 returns : tie.Need-returns
 returns c =
@@ -62,14 +35,14 @@ pub play-in-spec : {M : Type 1} → statement M
 play-in-spec =
     tie.close
     (tie.spec
-    play-requires
-    number-requires
+    (λ c κs. search needs)
+    (λ c κs. search needs)
     write-requires
-    same-length
-    same-length-2
-    same-length-3
-    same-length-4
-    same-length-5
-    same-length-6
-    same-length-7
+    (λ c. search needs)
+    (λ c. search needs)
+    (λ c. search needs)
+    (λ c. search needs)
+    (λ c. search needs)
+    (λ c. search needs)
+    (λ c. search needs)
     returns)

@@ -7,35 +7,14 @@ use borrow.Author.Needs.{needs}
 use Rattle.showing.proofs.show.Statement.{statement}
 use Rattle.showing.proofs.show.Tie as tie
 
-read-requires : tie.Need-read-requires
-read-requires c κs = search needs
-
-pixels-requires : tie.Need-pixels-requires
-pixels-requires c κs = search needs
-
-slice-aggregate-play-in : tie.Need-slice-aggregate-play-in
-slice-aggregate-play-in c = search needs
-
-array-borrow-prefix-states : tie.Need-array-borrow-prefix-states
-array-borrow-prefix-states c = search needs
-
 slice-aggregate-play-in-2 : tie.Need-slice-aggregate-play-in-2
 slice-aggregate-play-in-2 c = length-part {A = ℤ} _ 8000 (pos 0) (c .before .before .before .before .pixels .ensures .1)
-
-array-borrow-prefix-numbers : tie.Need-array-borrow-prefix-numbers
-array-borrow-prefix-numbers c = search needs
 
 slice-aggregate-play-in-3 : tie.Need-slice-aggregate-play-in-3
 slice-aggregate-play-in-3 c = length-part {A = ℕ} _ 8000 0 (c .before .before .before .before .before .pixels .ensures .1)
 
-array-borrow-prefix-picture : tie.Need-array-borrow-prefix-picture
-array-borrow-prefix-picture c = search needs
-
 slice-aggregate-play-in-4 : tie.Need-slice-aggregate-play-in-4
 slice-aggregate-play-in-4 c = length-part {A = ℕ} _ 8000 0 (c .before .before .before .before .before .before .pixels .ensures .1)
-
-slice-aggregate-play-in-5 : tie.Need-slice-aggregate-play-in-5
-slice-aggregate-play-in-5 c = search needs
 
 play-in-requires : tie.Need-play-in-requires
 play-in-requires c κs =
@@ -45,30 +24,21 @@ play-in-requires c κs =
     let n = room-read (a .file .now) _ _ (taken .read .ensures .config-is) (sized .pixels .ensures .0) in
     (taken .read .ensures, (lent-zeros (a .file .now) (a .old .now) (a .new .now) _ 8000 n (sized .pixels .ensures .1), refl))
 
-same-length : tie.Need-same-length
-same-length c = search needs
-
-same-length-2 : tie.Need-same-length-2
-same-length-2 c = search needs
-
-returns : tie.Need-returns
-returns c = search needs
-
 pub show-spec : {M : Type 1} → statement M
 show-spec =
     tie.close
     (tie.spec
-    read-requires
-    pixels-requires
-    slice-aggregate-play-in
-    array-borrow-prefix-states
+    (λ c κs. search needs)
+    (λ c κs. search needs)
+    (λ c. search needs)
+    (λ c. search needs)
     slice-aggregate-play-in-2
-    array-borrow-prefix-numbers
+    (λ c. search needs)
     slice-aggregate-play-in-3
-    array-borrow-prefix-picture
+    (λ c. search needs)
     slice-aggregate-play-in-4
-    slice-aggregate-play-in-5
+    (λ c. search needs)
     play-in-requires
-    same-length
-    same-length-2
-    returns)
+    (λ c. search needs)
+    (λ c. search needs)
+    (λ c. search needs))

@@ -1,83 +1,54 @@
--- `uc8253::write_data` meets its contract: turned back, or the data byte at its time.
+-- `uc8253::write_data` meets its contract: an advance, and then the data byte.
+use Rattle.uc8253.proofs.Then.{then-yes, then-no}
 use Rattle.controller.specs.DataByte.{dataByte}
+use Rattle.controller.specs.TurnedBack.{turnedBack}
 use mathlib.Core.Bool.{false}
-use borrow.Author.Tests.{eqb-true}
-use Rattle.uc8253.proofs.Called.{called-no, called-yes, ready-arrive}
 use Rattle.base.proofs.RefusalWords.{told}
+use mathlib.Core.Path.{_∙_}
 use Rattle.controller.specs.World.{World, world, buffers}
 use borrow.Author.Needs.{needs}
 use Rattle.uc8253.proofs.write_data.Statement.{statement}
 use Rattle.uc8253.proofs.write_data.Tie as tie
 
-turned-back-requires : tie.Need-turned-back-requires
-turned-back-requires c κs = search needs
-
-none-requires : tie.Need-none-requires
-none-requires c κs = search needs
-
-data-at-requires : tie.Need-data-at-requires
-data-at-requires c κs = let g = c .before .before .before .before .before .before .before .before .before .before .before .before .before .before .before .before .before .before .before .before .args in let w : World = world (g .p) (buffers (g .old .now) (g .new .now) (g .states .now) (g .numbers .now) (g .picture .now) (g .rows .now)) in ready-arrive false (g .at) w (eqb-true _ 0 (told (c .before .before .before .before .before .before .before .none .ensures) (c .before .before .before .before .before .before .before .before .turned-back .ensures) (c .before .before .before .before .before .before .if1 .taken)))
-
 same-length : tie.Need-same-length
-same-length c = search needs
+same-length c = c .before .before .before .before .before .before .data-byte .kept .1 .1 .0 ∙ c .before .before .before .before .before .before .before .before .before .before .before .before .before .before .before .before .before .before .before .before .before .before .before .before .advance .kept .1 .1 .0
 
 same-length-2 : tie.Need-same-length-2
-same-length-2 c = search needs
+same-length-2 c = c .before .before .before .before .before .before .data-byte .kept .1 .1 .1 .0 ∙ c .before .before .before .before .before .before .before .before .before .before .before .before .before .before .before .before .before .before .before .before .before .before .before .before .advance .kept .1 .1 .1 .0
 
 same-length-3 : tie.Need-same-length-3
-same-length-3 c = search needs
+same-length-3 c = c .before .before .before .before .before .before .before .before .before .before .before .before .before .before .before .before .before .before .before .before .before .before .before .before .advance .kept .1 .1 .1 .1 .0
 
 same-length-4 : tie.Need-same-length-4
-same-length-4 c = search needs
+same-length-4 c = c .before .before .before .before .before .before .before .before .before .before .before .before .before .before .before .before .before .before .before .before .before .before .before .before .advance .kept .1 .1 .1 .1 .1 .0
 
 same-length-5 : tie.Need-same-length-5
-same-length-5 c = search needs
-
-same-length-6 : tie.Need-same-length-6
-same-length-6 c = search needs
+same-length-5 c = c .before .before .before .before .before .before .before .before .before .before .before .before .before .before .before .before .before .before .before .before .before .before .before .before .advance .kept .1 .1 .1 .1 .1 .1 .0
 
 returns : tie.Need-returns
-returns c = let g = c .before .before .before .before .before .before .before .before .before .before .before .before .before .before .before .before .before .before .before .before .before .before .before .before .before .before .before .before .before .before .args in let w : World = world (g .p) (buffers (g .old .now) (g .new .now) (g .states .now) (g .numbers .now) (g .picture .now) (g .rows .now)) in (called-yes false (g .at) w (dataByte (g .byte)) _ (told (c .before .before .before .before .before .before .before .before .before .before .before .before .before .before .before .before .before .none .ensures) (c .before .before .before .before .before .before .before .before .before .before .before .before .before .before .before .before .before .before .turned-back .ensures) (c .before .before .before .before .before .before .before .before .before .before .before .before .before .before .before .before .if1 .taken)) (c .before .before .before .before .before .before .before .before .before .data-at .ensures), c .before .before .before .before .before .before .before .before .before .before .before .before .before .before .before .before .before .before .turned-back .ensures)
-
-same-length-7 : tie.Need-same-length-7
-same-length-7 c = search needs
-
-same-length-8 : tie.Need-same-length-8
-same-length-8 c = search needs
-
-same-length-9 : tie.Need-same-length-9
-same-length-9 c = search needs
-
-same-length-10 : tie.Need-same-length-10
-same-length-10 c = search needs
-
-same-length-11 : tie.Need-same-length-11
-same-length-11 c = search needs
-
-same-length-12 : tie.Need-same-length-12
-same-length-12 c = search needs
+returns c = let g = c .before .before .before .before .before .before .before .before .before .before .before .before .before .before .before .before .before .before .before .before .before .before .before .before .before .before .before .before .before .before .before .before .before .before .before .before .args in let w : World = world (g .p) (buffers (g .old .now) (g .new .now) (g .states .now) (g .numbers .now) (g .picture .now) (g .rows .now)) in let e = c .before .before .before .before .before .before .before .before .before .before .before .before .before .before .before .before .before .before .before .before .before .before .before .before .advance .ensures in let z = told {x = turnedBack false (g .at) w} (c .before .before .before .before .before .before .before .before .before .before .before .none .ensures) (e .1) (c .before .before .before .before .before .before .before .before .before .before .if1 .taken) in (then-yes (g .at) w _ (e .0) (dataByte (g .byte)) _ z (c .before .before .before .before .before .before .data-byte .ensures _ _ _), e .1)
 
 returns-2 : tie.Need-returns-2
-returns-2 c = let g = c .before .before .before .before .before .before .before .before .before .before .before .before .before .before .args in let w : World = world (g .p) (buffers (g .old .now) (g .new .now) (g .states .now) (g .numbers .now) (g .picture .now) (g .rows .now)) in (called-no false (g .at) w (dataByte (g .byte)) (told (c .before .none .ensures) (c .before .before .turned-back .ensures) (c .if1 .left)), c .before .before .turned-back .ensures)
+returns-2 c = let g = c .before .before .before .before .before .before .before .before .before .before .before .before .before .before .before .before .before .before .before .before .before .before .before .before .before .before .args in let w : World = world (g .p) (buffers (g .old .now) (g .new .now) (g .states .now) (g .numbers .now) (g .picture .now) (g .rows .now)) in let e = c .before .before .before .before .before .before .before .before .before .before .before .before .before .before .advance .ensures in let z = told {x = turnedBack false (g .at) w} (c .before .none .ensures) (e .1) (c .if1 .left) in (then-no (g .at) w _ (e .0) (dataByte (g .byte)) z, e .1)
 
 pub write-data-spec : {M : Type 1} → statement M
 write-data-spec =
     tie.close
     (tie.spec
-    turned-back-requires
-    none-requires
-    data-at-requires
+    (λ c κs. search needs)
+    (λ c κs. search needs)
+    (λ c κs. search needs)
     same-length
     same-length-2
     same-length-3
     same-length-4
     same-length-5
-    same-length-6
+    (λ c. search needs)
     returns
-    same-length-7
-    same-length-8
-    same-length-9
-    same-length-10
-    same-length-11
-    same-length-12
+    (λ c. search needs)
+    (λ c. search needs)
+    (λ c. search needs)
+    (λ c. search needs)
+    (λ c. search needs)
+    (λ c. search needs)
     returns-2)

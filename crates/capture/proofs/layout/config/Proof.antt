@@ -5,9 +5,6 @@ use borrow.Author.Needs.{needs}
 use Rattle.capture.proofs.layout.config.Statement.{statement}
 use Rattle.capture.proofs.layout.config.Tie as tie
 
-trailer-of-requires : tie.Need-trailer-of-requires
-trailer-of-requires c κs = search needs
-
 config-at-requires : tie.Need-config-at-requires
 config-at-requires c κs = c .trailer-of .ensures .offset-fits
 
@@ -18,4 +15,4 @@ returns c =
     c .config-at .ensures ∙ ap (configOf f) (c .before .trailer-of .ensures .offset-is)
 
 pub config-spec : {M : Type 1} → statement M
-config-spec = tie.close (tie.spec trailer-of-requires config-at-requires returns)
+config-spec = tie.close (tie.spec (λ c κs. search needs) config-at-requires returns)

@@ -7,24 +7,6 @@ use borrow.Author.Needs.{needs}
 use Rattle.capture.proofs.layout.config_at.Statement.{statement}
 use Rattle.capture.proofs.layout.config_at.Tie as tie
 
-byte-requires : tie.Need-byte-requires
-byte-requires c κs = search needs
-
-variant-requires : tie.Need-variant-requires
-variant-requires c κs = search needs
-
-panel-requires : tie.Need-panel-requires
-panel-requires c κs = search needs
-
-optics-requires : tie.Need-optics-requires
-optics-requires c κs = search needs
-
-timing-requires : tie.Need-timing-requires
-timing-requires c κs = search needs
-
-byte-requires-2 : tie.Need-byte-requires-2
-byte-requires-2 c κs = search needs
-
 returns : tie.Need-returns
 returns c =
     let sort = c .before .before .before .before in
@@ -36,10 +18,10 @@ pub config-at-spec : {M : Type 1} → statement M
 config-at-spec =
     tie.close
     (tie.spec
-    byte-requires
-    variant-requires
-    panel-requires
-    optics-requires
-    timing-requires
-    byte-requires-2
+    (λ c κs. search needs)
+    (λ c κs. search needs)
+    (λ c κs. search needs)
+    (λ c κs. search needs)
+    (λ c κs. search needs)
+    (λ c κs. search needs)
     returns)

@@ -19,27 +19,6 @@ abbrev μ-loop : tie.MeasureT-loop
 loop-holds : tie.Need-loop-holds Inv-loop μ-loop
 loop-holds c = (refl, omega arith, refl)
 
-add-number : tie.Need-add-number Inv-loop μ-loop
-add-number c = search needs
-
-mul-number : tie.Need-mul-number Inv-loop μ-loop
-mul-number c = search needs
-
-add-number-2 : tie.Need-add-number-2 Inv-loop μ-loop
-add-number-2 c = search needs
-
-number-requires : tie.Need-number-requires Inv-loop μ-loop
-number-requires c κs = search needs
-
-mul-periods : tie.Need-mul-periods Inv-loop μ-loop
-mul-periods c = search needs
-
-array-write-periods : tie.Need-array-write-periods Inv-loop μ-loop
-array-write-periods c = search needs
-
-add-code : tie.Need-add-code Inv-loop μ-loop
-add-code c = search needs
-
 loop-less : tie.Need-loop-less Inv-loop μ-loop
 loop-less c = omega arith
 
@@ -62,13 +41,13 @@ periods-spec =
     Inv-loop
     μ-loop
     loop-holds
-    add-number
-    mul-number
-    add-number-2
-    number-requires
-    mul-periods
-    array-write-periods
-    add-code
+    (λ c. search needs)
+    (λ c. search needs)
+    (λ c. search needs)
+    (λ c κs. search needs)
+    (λ c. search needs)
+    (λ c. search needs)
+    (λ c. search needs)
     loop-less
     loop-again
     returns)

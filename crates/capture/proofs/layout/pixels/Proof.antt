@@ -5,17 +5,8 @@ use Rattle.capture.proofs.LittleLaws.{product-fits}
 use Rattle.capture.proofs.layout.pixels.Statement.{statement}
 use Rattle.capture.proofs.layout.pixels.Tie as tie
 
-cast-result : tie.Need-cast-result
-cast-result c = search needs
-
-cast-result-2 : tie.Need-cast-result-2
-cast-result-2 c = search needs
-
 mul-result : tie.Need-mul-result
 mul-result c = record { fits = omega (arith, product-fits (c .before .before .args .c .panel .sources) (c .before .before .args .c .panel .gates) (search needs) (search needs)) }
 
-returns : tie.Need-returns
-returns c = search needs
-
 pub pixels-spec : {M : Type 1} → statement M
-pixels-spec = tie.close (tie.spec cast-result cast-result-2 mul-result returns)
+pixels-spec = tie.close (tie.spec (λ c. search needs) (λ c. search needs) mul-result (λ c. search needs))

@@ -4,12 +4,6 @@ use borrow.Author.Needs.{needs}
 use Rattle.capture.proofs.layout.trailer_of.Statement.{statement}
 use Rattle.capture.proofs.layout.trailer_of.Tie as tie
 
-word-requires : tie.Need-word-requires
-word-requires c κs = search needs
-
-word-requires-2 : tie.Need-word-requires-2
-word-requires-2 c κs = search needs
-
 returns : tie.Need-returns
 unfolding offsetOf countOf
 returns c =
@@ -18,4 +12,4 @@ returns c =
     record { offset-is = offset .0; count-is = count .0; offset-fits = offset .1; count-fits = count .1 }
 
 pub trailer-of-spec : {M : Type 1} → statement M
-trailer-of-spec = tie.close (tie.spec word-requires word-requires-2 returns)
+trailer-of-spec = tie.close (tie.spec (λ c κs. search needs) (λ c κs. search needs) returns)

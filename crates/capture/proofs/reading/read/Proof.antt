@@ -7,9 +7,6 @@ use borrow.Author.Needs.{needs}
 use Rattle.capture.proofs.reading.read.Statement.{statement}
 use Rattle.capture.proofs.reading.read.Tie as tie
 
-trailer-of-requires : tie.Need-trailer-of-requires
-trailer-of-requires c κs = search needs
-
 config-at-requires : tie.Need-config-at-requires
 config-at-requires c κs = c .trailer-of .ensures .offset-fits
 
@@ -19,12 +16,6 @@ refused-requires c κs =
     let t = c .before .trailer-of .ensures in
     let f = c .before .before .before .args .file .now in
     (t, c .config-at .ensures ∙ ap (configOf f) (t .offset-is))
-
-none-requires : tie.Need-none-requires
-none-requires c κs = search needs
-
-mul-t7 : tie.Need-mul-t7
-mul-t7 c = search needs
 
 returns : tie.Need-returns
 unfolding configIn eventsEnd
@@ -56,10 +47,10 @@ pub read-spec : {M : Type 1} → statement M
 read-spec =
     tie.close
     (tie.spec
-    trailer-of-requires
+    (λ c κs. search needs)
     config-at-requires
     refused-requires
-    none-requires
-    mul-t7
+    (λ c κs. search needs)
+    (λ c. search needs)
     returns
     returns-2)

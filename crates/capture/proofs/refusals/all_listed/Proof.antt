@@ -20,18 +20,6 @@ abbrev μ-loop : tie.MeasureT-loop
 loop-holds : tie.Need-loop-holds Inv-loop μ-loop
 loop-holds c = (refl, omega arith)
 
-mul-at : tie.Need-mul-at Inv-loop μ-loop
-mul-at c = search needs
-
-byte-requires : tie.Need-byte-requires Inv-loop μ-loop
-byte-requires c κs = search needs
-
-byte-requires-2 : tie.Need-byte-requires-2 Inv-loop μ-loop
-byte-requires-2 c κs = search needs
-
-listed-requires : tie.Need-listed-requires Inv-loop μ-loop
-listed-requires c κs = search needs
-
 returns : tie.Need-returns Inv-loop μ-loop
 returns c =
     let second = c .before .before in
@@ -39,9 +27,6 @@ returns c =
     let a = second .before .before .before .before .before .args in
     let told : listed (kindAt (a .file .now) (l .i)) (valueAt (a .file .now) (l .i)) ≡ false = rw (← second .before .byte .ensures, ← second .byte2 .ensures) (sym (c .before .listed .ensures) ∙ not-true _ (c .if1 .taken)) in
     sym (unlisted-seen (a .file .now) (a .count) (l .i) (omega arith) told)
-
-add-i : tie.Need-add-i Inv-loop μ-loop
-add-i c = search needs
 
 loop-less : tie.Need-loop-less Inv-loop μ-loop
 loop-less c = omega arith
@@ -68,12 +53,12 @@ all-listed-spec =
     Inv-loop
     μ-loop
     loop-holds
-    mul-at
-    byte-requires
-    byte-requires-2
-    listed-requires
+    (λ c. search needs)
+    (λ c κs. search needs)
+    (λ c κs. search needs)
+    (λ c κs. search needs)
     returns
-    add-i
+    (λ c. search needs)
     loop-less
     loop-again
     returns-2)

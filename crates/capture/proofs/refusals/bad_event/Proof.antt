@@ -9,9 +9,6 @@ use borrow.Author.Needs.{needs}
 use Rattle.capture.proofs.refusals.bad_event.Statement.{statement}
 use Rattle.capture.proofs.refusals.bad_event.Tie as tie
 
-byte-requires : tie.Need-byte-requires
-byte-requires c κs = search needs
-
 returns : tie.Need-returns
 unfolding badEvent
 returns c =
@@ -20,9 +17,6 @@ returns c =
     let t = start .pre in
     let v = c .before .byte .ensures ∙ ap (λ (p : ℕ). getD (a .file .now) p 0) (add-zero (a .t .offset)) in
     rw (← t .offset-is, ← v) (simp (lt-ltb _ _ (c .if1 .taken)))
-
-byte-requires-2 : tie.Need-byte-requires-2
-byte-requires-2 c κs = search needs
 
 returns-2 : tie.Need-returns-2
 unfolding badEvent
@@ -33,9 +27,6 @@ returns-2 c =
     let t = start .pre in
     let v = first .before .byte .ensures ∙ ap (λ (p : ℕ). getD (a .file .now) p 0) (add-zero (a .t .offset)) in
     rw (← t .offset-is, ← v, ← c .before .byte2 .ensures) (simp (lt-ltb _ _ (c .if2 .taken), le-ltb _ _ (first .if1 .left)))
-
-all-listed-requires : tie.Need-all-listed-requires
-all-listed-requires c κs = search needs
 
 returns-3 : tie.Need-returns-3
 unfolding badEvent
@@ -51,4 +42,4 @@ returns-3 c =
 pub bad-event-spec : {M : Type 1} → statement M
 bad-event-spec =
     tie.close
-    (tie.spec byte-requires returns byte-requires-2 returns-2 all-listed-requires returns-3)
+    (tie.spec (λ c κs. search needs) returns (λ c κs. search needs) returns-2 (λ c κs. search needs) returns-3)

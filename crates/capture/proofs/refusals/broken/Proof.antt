@@ -13,18 +13,12 @@ returns-2 : tie.Need-returns-2
 unfolding broken
 returns-2 c = simp (lt-ltb _ _ (c .if2 .taken), le-ltb _ _ (c .before .if1 .left))
 
-mul-if3 : tie.Need-mul-if3
-mul-if3 c = search needs
-
 returns-3 : tie.Need-returns-3
 unfolding broken
 returns-3 c =
     let long = c .before .before .before in
     let t = long .before .before .pre in
     rw (← t .offset-is, ← t .count-is) (simp (ne-eqb _ _ (c .if3 .taken), le-ltb _ _ (long .if2 .left), le-ltb _ _ (long .before .if1 .left)))
-
-add-result : tie.Need-add-result
-add-result c = search needs
 
 returns-4 : tie.Need-returns-4
 unfolding broken
@@ -34,4 +28,4 @@ returns-4 c =
     rw (← t .offset-is, ← t .count-is) (simp (eq-eqb _ _ (c .before .if3 .left), le-ltb _ _ (long .if2 .left), le-ltb _ _ (long .before .if1 .left)))
 
 pub broken-spec : {M : Type 1} → statement M
-broken-spec = tie.close (tie.spec returns returns-2 mul-if3 returns-3 add-result returns-4)
+broken-spec = tie.close (tie.spec returns returns-2 (λ c. search needs) returns-3 (λ c. search needs) returns-4)

@@ -6,23 +6,14 @@ use borrow.Author.Needs.{needs}
 use Rattle.capture.proofs.refusals.refused.Statement.{statement}
 use Rattle.capture.proofs.refusals.refused.Tie as tie
 
-broken-requires : tie.Need-broken-requires
-broken-requires c κs = search needs
-
 returns : tie.Need-returns
 returns c = sym (broken-first (c .before .before .before .args .file .now) (sym (c .before .broken .ensures) ∙ c .if1 .taken))
-
-bad-event-requires : tie.Need-bad-event-requires
-bad-event-requires c κs = search needs
 
 returns-2 : tie.Need-returns-2
 returns-2 c =
     let first = c .before .before in
     let f = first .before .before .before .args .file .now in
     sym (event-second f (sym (first .before .broken .ensures) ∙ first .if1 .left) (sym (c .before .bad-event .ensures) ∙ c .if2 .taken))
-
-validate-requires : tie.Need-validate-requires
-validate-requires c κs = search needs
 
 returns-3 : tie.Need-returns-3
 returns-3 c =
@@ -36,4 +27,4 @@ returns-3 c =
 pub refused-spec : {M : Type 1} → statement M
 refused-spec =
     tie.close
-    (tie.spec broken-requires returns bad-event-requires returns-2 validate-requires returns-3)
+    (tie.spec (λ c κs. search needs) returns (λ c κs. search needs) returns-2 (λ c κs. search needs) returns-3)

@@ -7,12 +7,9 @@ use borrow.Author.Needs.{needs}
 use Rattle.capture.proofs.refusals.too_many.Statement.{statement}
 use Rattle.capture.proofs.refusals.too_many.Tie as tie
 
-pixels-requires : tie.Need-pixels-requires
-pixels-requires c κs = search needs
-
 returns : tie.Need-returns
 unfolding tooMany
 returns c = ap (λ (n : ℕ). ltb 8000 n) (c .pixels .ensures)
 
 pub too-many-spec : {M : Type 1} → statement M
-too-many-spec = tie.close (tie.spec pixels-requires returns)
+too-many-spec = tie.close (tie.spec (λ c κs. search needs) returns)

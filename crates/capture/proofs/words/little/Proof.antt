@@ -7,17 +7,11 @@ use borrow.Author.Needs.{needs}
 use Rattle.capture.proofs.words.little.Statement.{statement}
 use Rattle.capture.proofs.words.little.Tie as tie
 
-number-requires : tie.Need-number-requires
-number-requires c κs = search needs
-
 returns : tie.Need-returns
 returns c =
     let a = c .before .before .before .args in
     let e : a .n ≡ min (a .n) 8 = omega arith in
     c .number .ensures .0 ∙ ap (little (a .bytes .now) (a .at)) e
-
-number-requires-2 : tie.Need-number-requires-2
-number-requires-2 c κs = search needs
 
 returns-2 : tie.Need-returns-2
 returns-2 c =
@@ -26,4 +20,4 @@ returns-2 c =
     c .number2 .ensures .0 ∙ ap (little (a .bytes .now) (a .at)) e
 
 pub little-spec : {M : Type 1} → statement M
-little-spec = tie.close (tie.spec number-requires returns number-requires-2 returns-2)
+little-spec = tie.close (tie.spec (λ c κs. search needs) returns (λ c κs. search needs) returns-2)

@@ -21,15 +21,6 @@ loop-holds c =
     let none = none-yet (a .bytes .now) (a .at + a .n) (a .n) in
     (none .0, none .1, omega arith)
 
-sub-k : tie.Need-sub-k Inv-loop μ-loop
-sub-k c = search needs
-
-byte-requires : tie.Need-byte-requires Inv-loop μ-loop
-byte-requires c κs = search needs
-
-cast-value : tie.Need-cast-value Inv-loop μ-loop
-cast-value c = search needs
-
 mul-value : tie.Need-mul-value Inv-loop μ-loop
 mul-value c =
     let l = c .before .before .loop in
@@ -76,9 +67,9 @@ number-spec =
     Inv-loop
     μ-loop
     loop-holds
-    sub-k
-    byte-requires
-    cast-value
+    (λ c. search needs)
+    (λ c κs. search needs)
+    (λ c. search needs)
     mul-value
     add-value
     loop-less

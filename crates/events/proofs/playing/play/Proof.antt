@@ -7,18 +7,6 @@ use borrow.Author.Needs.{needs}
 use Rattle.events.proofs.playing.play.Statement.{statement}
 use Rattle.events.proofs.playing.play.Tie as tie
 
-power-on-requires : tie.Need-power-on-requires
-power-on-requires c κs = search needs
-
-none-requires : tie.Need-none-requires
-none-requires c κs = search needs
-
-run-requires : tie.Need-run-requires
-run-requires c κs = search needs
-
-same-length : tie.Need-same-length
-same-length c = search needs
-
 same-length-2 : tie.Need-same-length-2
 same-length-2 c =
     let ran = c .before .before .before .before .before .before .before .before .before .before .before .before .before .before in
@@ -70,24 +58,6 @@ returns c =
       answers-yes (a .config) (a .events .now) b h _ (made .power-on .ensures .0) (a .answers .now) _ (ran .run .ensures .1),
     )
 
-same-length-8 : tie.Need-same-length-8
-same-length-8 c = search needs
-
-same-length-9 : tie.Need-same-length-9
-same-length-9 c = search needs
-
-same-length-10 : tie.Need-same-length-10
-same-length-10 c = search needs
-
-same-length-11 : tie.Need-same-length-11
-same-length-11 c = search needs
-
-same-length-12 : tie.Need-same-length-12
-same-length-12 c = search needs
-
-same-length-13 : tie.Need-same-length-13
-same-length-13 c = search needs
-
 returns-2 : tie.Need-returns-2
 returns-2 c =
     let made = c .before .before .before .before .before .before .before .before .before .before .before .before .before .before in
@@ -102,10 +72,10 @@ pub play-spec : {M : Type 1} → statement M
 play-spec =
     tie.close
     (tie.spec
-    power-on-requires
-    none-requires
-    run-requires
-    same-length
+    (λ c κs. search needs)
+    (λ c κs. search needs)
+    (λ c κs. search needs)
+    (λ c. search needs)
     same-length-2
     same-length-3
     same-length-4
@@ -113,10 +83,10 @@ play-spec =
     same-length-6
     same-length-7
     returns
-    same-length-8
-    same-length-9
-    same-length-10
-    same-length-11
-    same-length-12
-    same-length-13
+    (λ c. search needs)
+    (λ c. search needs)
+    (λ c. search needs)
+    (λ c. search needs)
+    (λ c. search needs)
+    (λ c. search needs)
     returns-2)

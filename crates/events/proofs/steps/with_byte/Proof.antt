@@ -3,11 +3,8 @@ use borrow.Author.Needs.{needs}
 use Rattle.events.proofs.steps.with_byte.Statement.{statement}
 use Rattle.events.proofs.steps.with_byte.Tie as tie
 
-read-number-requires : tie.Need-read-number-requires
-read-number-requires c κs = search needs
-
 returns : tie.Need-returns
 returns c = simp (c .read-number .ensures)
 
 pub with-byte-spec : {M : Type 1} → statement M
-with-byte-spec = tie.close (tie.spec read-number-requires returns)
+with-byte-spec = tie.close (tie.spec (λ c κs. search needs) returns)

@@ -3,11 +3,8 @@ use borrow.Author.Needs.{needs}
 use Rattle.exports.proofs.handed.active_numbers.Statement.{statement}
 use Rattle.exports.proofs.handed.active_numbers.Tie as tie
 
-kind-numbers-requires : tie.Need-kind-numbers-requires
-kind-numbers-requires c κs = search needs
-
 returns : tie.Need-returns
 returns c = simp (c .before .kind-numbers .ensures)
 
 pub active-numbers-spec : {M : Type 1} → statement M
-active-numbers-spec = tie.close (tie.spec kind-numbers-requires returns)
+active-numbers-spec = tie.close (tie.spec (λ c κs. search needs) returns)

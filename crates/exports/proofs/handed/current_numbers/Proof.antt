@@ -3,24 +3,6 @@ use borrow.Author.Needs.{needs}
 use Rattle.exports.proofs.handed.current_numbers.Statement.{statement}
 use Rattle.exports.proofs.handed.current_numbers.Tie as tie
 
-enum-told : tie.Need-enum-told
-enum-told c = search needs
-
-no-active-requires : tie.Need-no-active-requires
-no-active-requires c κs = search needs
-
-enum-told-2 : tie.Need-enum-told-2
-enum-told-2 c = search needs
-
-no-active-requires-2 : tie.Need-no-active-requires-2
-no-active-requires-2 c κs = search needs
-
-enum-known-current : tie.Need-enum-known-current
-enum-known-current c = search needs
-
-active-numbers-requires : tie.Need-active-numbers-requires
-active-numbers-requires c κs = search needs
-
 returns : tie.Need-returns
 returns c = simp (c .no-active .ensures, c .before .enum-told .given .1)
 
@@ -34,12 +16,12 @@ pub current-numbers-spec : {M : Type 1} → statement M
 current-numbers-spec =
     tie.close
     (tie.spec
-    enum-told
-    no-active-requires
-    enum-told-2
-    no-active-requires-2
-    enum-known-current
-    active-numbers-requires
+    (λ c. search needs)
+    (λ c κs. search needs)
+    (λ c. search needs)
+    (λ c κs. search needs)
+    (λ c. search needs)
+    (λ c κs. search needs)
     returns
     returns-2
     returns-3)

@@ -3,11 +3,8 @@ use borrow.Author.Needs.{needs}
 use Rattle.exports.proofs.handed.image_numbers.Statement.{statement}
 use Rattle.exports.proofs.handed.image_numbers.Tie as tie
 
-refresh-number-requires : tie.Need-refresh-number-requires
-refresh-number-requires c κs = search needs
-
 returns : tie.Need-returns
 returns c = simp (c .refresh-number .ensures)
 
 pub image-numbers-spec : {M : Type 1} → statement M
-image-numbers-spec = tie.close (tie.spec refresh-number-requires returns)
+image-numbers-spec = tie.close (tie.spec (λ c κs. search needs) returns)

@@ -3,11 +3,8 @@ use borrow.Author.Needs.{needs}
 use Rattle.exports.proofs.handed.operation_numbers.Statement.{statement}
 use Rattle.exports.proofs.handed.operation_numbers.Tie as tie
 
-work-numbers-requires : tie.Need-work-numbers-requires
-work-numbers-requires c κs = search needs
-
 returns : tie.Need-returns
 returns c = simp (c .before .work-numbers .ensures)
 
 pub operation-numbers-spec : {M : Type 1} → statement M
-operation-numbers-spec = tie.close (tie.spec work-numbers-requires returns)
+operation-numbers-spec = tie.close (tie.spec (λ c κs. search needs) returns)

@@ -3,15 +3,6 @@ use borrow.Author.Needs.{needs}
 use Rattle.exports.proofs.handed.params_numbers.Statement.{statement}
 use Rattle.exports.proofs.handed.params_numbers.Tie as tie
 
-enum-known-params : tie.Need-enum-known-params
-enum-known-params c = search needs
-
-enum-known-params-2 : tie.Need-enum-known-params-2
-enum-known-params-2 c = search needs
-
-enum-told : tie.Need-enum-told
-enum-told c = search needs
-
 returns : tie.Need-returns
 returns c = simp (c .before .params .given .1)
 
@@ -24,4 +15,4 @@ returns-3 c = simp (c .enum-told .given .1)
 pub params-numbers-spec : {M : Type 1} → statement M
 params-numbers-spec =
     tie.close
-    (tie.spec enum-known-params enum-known-params-2 enum-told returns returns-2 returns-3)
+    (tie.spec (λ c. search needs) (λ c. search needs) (λ c. search needs) returns returns-2 returns-3)

@@ -3,11 +3,8 @@ use borrow.Author.Needs.{needs}
 use Rattle.exports.proofs.handed.refresh_numbers.Statement.{statement}
 use Rattle.exports.proofs.handed.refresh_numbers.Tie as tie
 
-refresh-number-requires : tie.Need-refresh-number-requires
-refresh-number-requires c κs = search needs
-
 returns : tie.Need-returns
 returns c = simp (c .refresh-number .ensures)
 
 pub refresh-numbers-spec : {M : Type 1} → statement M
-refresh-numbers-spec = tie.close (tie.spec refresh-number-requires returns)
+refresh-numbers-spec = tie.close (tie.spec (λ c κs. search needs) returns)

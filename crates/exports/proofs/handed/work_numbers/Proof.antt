@@ -3,48 +3,6 @@ use borrow.Author.Needs.{needs}
 use Rattle.exports.proofs.handed.work_numbers.Statement.{statement}
 use Rattle.exports.proofs.handed.work_numbers.Tie as tie
 
-enum-told : tie.Need-enum-told
-enum-told c = search needs
-
-plain-work-requires : tie.Need-plain-work-requires
-plain-work-requires c κs = search needs
-
-enum-told-2 : tie.Need-enum-told-2
-enum-told-2 c = search needs
-
-plain-work-requires-2 : tie.Need-plain-work-requires-2
-plain-work-requires-2 c κs = search needs
-
-enum-told-3 : tie.Need-enum-told-3
-enum-told-3 c = search needs
-
-plain-work-requires-3 : tie.Need-plain-work-requires-3
-plain-work-requires-3 c κs = search needs
-
-enum-told-4 : tie.Need-enum-told-4
-enum-told-4 c = search needs
-
-plain-work-requires-4 : tie.Need-plain-work-requires-4
-plain-work-requires-4 c κs = search needs
-
-enum-told-5 : tie.Need-enum-told-5
-enum-told-5 c = search needs
-
-plain-work-requires-5 : tie.Need-plain-work-requires-5
-plain-work-requires-5 c κs = search needs
-
-enum-told-6 : tie.Need-enum-told-6
-enum-told-6 c = search needs
-
-plain-work-requires-6 : tie.Need-plain-work-requires-6
-plain-work-requires-6 c κs = search needs
-
-enum-known-work : tie.Need-enum-known-work
-enum-known-work c = search needs
-
-refresh-numbers-requires : tie.Need-refresh-numbers-requires
-refresh-numbers-requires c κs = search needs
-
 returns : tie.Need-returns
 returns c = simp (c .plain-work .ensures, c .before .enum-told .given .1)
 
@@ -70,20 +28,20 @@ pub work-numbers-spec : {M : Type 1} → statement M
 work-numbers-spec =
     tie.close
     (tie.spec
-    enum-told
-    plain-work-requires
-    enum-told-2
-    plain-work-requires-2
-    enum-told-3
-    plain-work-requires-3
-    enum-told-4
-    plain-work-requires-4
-    enum-told-5
-    plain-work-requires-5
-    enum-told-6
-    plain-work-requires-6
-    enum-known-work
-    refresh-numbers-requires
+    (λ c. search needs)
+    (λ c κs. search needs)
+    (λ c. search needs)
+    (λ c κs. search needs)
+    (λ c. search needs)
+    (λ c κs. search needs)
+    (λ c. search needs)
+    (λ c κs. search needs)
+    (λ c. search needs)
+    (λ c κs. search needs)
+    (λ c. search needs)
+    (λ c κs. search needs)
+    (λ c. search needs)
+    (λ c κs. search needs)
     returns
     returns-2
     returns-3

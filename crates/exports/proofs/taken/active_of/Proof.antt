@@ -3,14 +3,8 @@ use borrow.Author.Needs.{needs}
 use Rattle.exports.proofs.taken.active_of.Statement.{statement}
 use Rattle.exports.proofs.taken.active_of.Tie as tie
 
-params-of-requires : tie.Need-params-of-requires
-params-of-requires c κs = search needs
-
-kind-of-requires : tie.Need-kind-of-requires
-kind-of-requires c κs = search needs
-
 returns : tie.Need-returns
 returns c = simp (c .before .kind-of .ensures, c .before .before .params-of .ensures)
 
 pub active-of-spec : {M : Type 1} → statement M
-active-of-spec = tie.close (tie.spec params-of-requires kind-of-requires returns)
+active-of-spec = tie.close (tie.spec (λ c κs. search needs) (λ c κs. search needs) returns)

@@ -3,11 +3,8 @@ use borrow.Author.Needs.{needs}
 use Rattle.exports.proofs.taken.config_of.Statement.{statement}
 use Rattle.exports.proofs.taken.config_of.Tie as tie
 
-variant-of-requires : tie.Need-variant-of-requires
-variant-of-requires c κs = search needs
-
 returns : tie.Need-returns
 returns c = simp (c .before .before .before .variant-of .ensures)
 
 pub config-of-spec : {M : Type 1} → statement M
-config-of-spec = tie.close (tie.spec variant-of-requires returns)
+config-of-spec = tie.close (tie.spec (λ c κs. search needs) returns)

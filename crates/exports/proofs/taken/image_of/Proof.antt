@@ -3,11 +3,8 @@ use borrow.Author.Needs.{needs}
 use Rattle.exports.proofs.taken.image_of.Statement.{statement}
 use Rattle.exports.proofs.taken.image_of.Tie as tie
 
-refresh-kind-of-requires : tie.Need-refresh-kind-of-requires
-refresh-kind-of-requires c κs = search needs
-
 returns : tie.Need-returns
 returns c = simp (c .refresh-kind-of .ensures)
 
 pub image-of-spec : {M : Type 1} → statement M
-image-of-spec = tie.close (tie.spec refresh-kind-of-requires returns)
+image-of-spec = tie.close (tie.spec (λ c κs. search needs) returns)

@@ -3,11 +3,8 @@ use borrow.Author.Needs.{needs}
 use Rattle.exports.proofs.taken.mode_of.Statement.{statement}
 use Rattle.exports.proofs.taken.mode_of.Tie as tie
 
-power-of-requires : tie.Need-power-of-requires
-power-of-requires c κs = search needs
-
 returns : tie.Need-returns
 returns c = simp (c .power-of .ensures)
 
 pub mode-of-spec : {M : Type 1} → statement M
-mode-of-spec = tie.close (tie.spec power-of-requires returns)
+mode-of-spec = tie.close (tie.spec (λ c κs. search needs) returns)

@@ -3,14 +3,8 @@ use borrow.Author.Needs.{needs}
 use Rattle.exports.proofs.taken.stage_of.Statement.{statement}
 use Rattle.exports.proofs.taken.stage_of.Tie as tie
 
-active-of-requires : tie.Need-active-of-requires
-active-of-requires c κs = search needs
-
-current-of-requires : tie.Need-current-of-requires
-current-of-requires c κs = search needs
-
 returns : tie.Need-returns
 returns c = simp (c .current-of .ensures, c .before .active-of .ensures)
 
 pub stage-of-spec : {M : Type 1} → statement M
-stage-of-spec = tie.close (tie.spec active-of-requires current-of-requires returns)
+stage-of-spec = tie.close (tie.spec (λ c κs. search needs) (λ c κs. search needs) returns)

@@ -18,31 +18,10 @@ Inv-loop text₀ held row n₀ k₀ text n k =
 abbrev μ-loop : tie.MeasureT-loop
 μ-loop text₀ held row n₀ k₀ text n k = length row - k
 
-slice-aggregate-put : tie.Need-slice-aggregate-put Inv-loop μ-loop
-slice-aggregate-put c = search needs
-
-put-requires : tie.Need-put-requires Inv-loop μ-loop
-put-requires c κs = search needs
-
 loop-holds : tie.Need-loop-holds Inv-loop μ-loop
 loop-holds c =
     let first = c .before .before .put .ensures in
     (puts-nothing _ _ (puts-within first), search needs, search needs)
-
-mul-number : tie.Need-mul-number Inv-loop μ-loop
-mul-number c = search needs
-
-shared-slice-read-number : tie.Need-shared-slice-read-number Inv-loop μ-loop
-shared-slice-read-number c = search needs
-
-number-requires : tie.Need-number-requires Inv-loop μ-loop
-number-requires c κs = search needs
-
-add-k : tie.Need-add-k Inv-loop μ-loop
-add-k c = search needs
-
-loop-less : tie.Need-loop-less Inv-loop μ-loop
-loop-less c = search needs
 
 loop-again : tie.Need-loop-again Inv-loop μ-loop
 loop-again c =
@@ -51,12 +30,6 @@ loop-again c =
     let put = puts-then (turn .loop .inv .0) (c .before .before .number .ensures) in
     let h = c .before .before .before .before .before .loop-test .taken in
     (puts-as put (behind-more row (turn .loop .k) h), search needs, search needs)
-
-byte-requires : tie.Need-byte-requires Inv-loop μ-loop
-byte-requires c κs = search needs
-
-same-length : tie.Need-same-length Inv-loop μ-loop
-same-length c = search needs
 
 returns : tie.Need-returns Inv-loop μ-loop
 returns c =
@@ -73,15 +46,15 @@ diagnostic-spec =
     (tie.spec
     Inv-loop
     μ-loop
-    slice-aggregate-put
-    put-requires
+    (λ c. search needs)
+    (λ c κs. search needs)
     loop-holds
-    mul-number
-    shared-slice-read-number
-    number-requires
-    add-k
-    loop-less
+    (λ c. search needs)
+    (λ c. search needs)
+    (λ c κs. search needs)
+    (λ c. search needs)
+    (λ c. search needs)
     loop-again
-    byte-requires
-    same-length
+    (λ c κs. search needs)
+    (λ c. search needs)
     returns)

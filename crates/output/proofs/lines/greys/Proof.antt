@@ -19,45 +19,21 @@ Inv-loop text₀ held row n₀ x₀ text n x =
 abbrev μ-loop : tie.MeasureT-loop
 μ-loop text₀ held row n₀ x₀ text n x = length row - x
 
-byte-requires : tie.Need-byte-requires Inv-loop μ-loop
-byte-requires c κs = search needs
-
-same-length : tie.Need-same-length Inv-loop μ-loop
-same-length c = search needs
-
 returns : tie.Need-returns Inv-loop μ-loop
 returns c =
     let test = c .before .before .before .before in
     puts-as (c .before .before .byte .ensures) (greys-none (test .before .before .before .args .row .now) (test .if1 .taken))
 
-shared-slice-read-decimal : tie.Need-shared-slice-read-decimal Inv-loop μ-loop
-shared-slice-read-decimal c = search needs
-
 cast-decimal : tie.Need-cast-decimal Inv-loop μ-loop
 cast-decimal c = omega (arith, c .shared-slice-known2 .given 0)
-
-decimal-requires : tie.Need-decimal-requires Inv-loop μ-loop
-decimal-requires c κs = search needs
 
 loop-holds : tie.Need-loop-holds Inv-loop μ-loop
 loop-holds c =
     let first = c .before .before .decimal .ensures in
     (puts-nothing _ _ (puts-within first), search needs, search needs, search needs)
 
-shared-slice-read-number : tie.Need-shared-slice-read-number Inv-loop μ-loop
-shared-slice-read-number c = search needs
-
 cast-number : tie.Need-cast-number Inv-loop μ-loop
 cast-number c = omega (arith, c .shared-slice-known3 .given (c .before .before .before .loop .x))
-
-number-requires : tie.Need-number-requires Inv-loop μ-loop
-number-requires c κs = search needs
-
-add-x : tie.Need-add-x Inv-loop μ-loop
-add-x c = search needs
-
-loop-less : tie.Need-loop-less Inv-loop μ-loop
-loop-less c = search needs
 
 loop-again : tie.Need-loop-again Inv-loop μ-loop
 loop-again c =
@@ -69,12 +45,6 @@ loop-again c =
       search needs,
       search needs,
     )
-
-byte-requires-2 : tie.Need-byte-requires-2 Inv-loop μ-loop
-byte-requires-2 c κs = search needs
-
-same-length-2 : tie.Need-same-length-2 Inv-loop μ-loop
-same-length-2 c = search needs
 
 returns-2 : tie.Need-returns-2 Inv-loop μ-loop
 returns-2 c =
@@ -91,19 +61,19 @@ greys-spec =
     (tie.spec
     Inv-loop
     μ-loop
-    byte-requires
-    same-length
+    (λ c κs. search needs)
+    (λ c. search needs)
     returns
-    shared-slice-read-decimal
+    (λ c. search needs)
     cast-decimal
-    decimal-requires
+    (λ c κs. search needs)
     loop-holds
-    shared-slice-read-number
+    (λ c. search needs)
     cast-number
-    number-requires
-    add-x
-    loop-less
+    (λ c κs. search needs)
+    (λ c. search needs)
+    (λ c. search needs)
     loop-again
-    byte-requires-2
-    same-length-2
+    (λ c κs. search needs)
+    (λ c. search needs)
     returns-2)

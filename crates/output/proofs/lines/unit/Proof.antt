@@ -7,12 +7,6 @@ use borrow.Author.Needs.{needs}
 use Rattle.output.proofs.lines.unit.Statement.{statement}
 use Rattle.output.proofs.lines.unit.Tie as tie
 
-read-at-requires : tie.Need-read-at-requires
-read-at-requires c κs = search needs
-
-same-length : tie.Need-same-length
-same-length c = search needs
-
 returns : tie.Need-returns
 returns c =
     let test = c .before .before .before .before in
@@ -21,21 +15,6 @@ returns c =
     (sym
     (is-read (a .log) (a .image) (a .events .now) (a .answers .now) (a .picture .now) (a .rows .now) (a .i)
     (test .if1 .taken)))
-
-cast-stored : tie.Need-cast-stored
-cast-stored c = search needs
-
-cast-numbers-of : tie.Need-cast-numbers-of
-cast-numbers-of c = search needs
-
-numbers-of-requires : tie.Need-numbers-of-requires
-numbers-of-requires c κs = search needs
-
-diagnostic-requires : tie.Need-diagnostic-requires
-diagnostic-requires c κs = search needs
-
-same-length-2 : tie.Need-same-length-2
-same-length-2 c = search needs
 
 returns-2 : tie.Need-returns-2
 returns-2 c =
@@ -47,12 +26,6 @@ returns-2 c =
     ∙ sym
     (is-stored (a .log) (a .image) (a .events .now) (a .answers .now) (a .picture .now) (a .rows .now) (a .i)
     (first .if1 .left) (test .if2 .taken)))
-
-below-requires : tie.Need-below-requires
-below-requires c κs = search needs
-
-same-length-3 : tie.Need-same-length-3
-same-length-3 c = search needs
 
 returns-3 : tie.Need-returns-3
 returns-3 c =
@@ -68,15 +41,15 @@ pub unit-spec : {M : Type 1} → statement M
 unit-spec =
     tie.close
     (tie.spec
-    read-at-requires
-    same-length
+    (λ c κs. search needs)
+    (λ c. search needs)
     returns
-    cast-stored
-    cast-numbers-of
-    numbers-of-requires
-    diagnostic-requires
-    same-length-2
+    (λ c. search needs)
+    (λ c. search needs)
+    (λ c κs. search needs)
+    (λ c κs. search needs)
+    (λ c. search needs)
     returns-2
-    below-requires
-    same-length-3
+    (λ c κs. search needs)
+    (λ c. search needs)
     returns-3)

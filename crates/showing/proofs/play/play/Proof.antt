@@ -12,41 +12,11 @@ use borrow.Author.Needs.{needs}
 use Rattle.showing.proofs.play.play.Statement.{statement}
 use Rattle.showing.proofs.play.play.Tie as tie
 
-refusal-requires : tie.Need-refusal-requires
-refusal-requires c κs = search needs
-
-none-requires : tie.Need-none-requires
-none-requires c κs = search needs
-
 slice-aggregate-play : tie.Need-slice-aggregate-play
 slice-aggregate-play c =
     let start = c .before .before .before .before .before .before .before .before .before .before .before .before in
     let file = start .args .file .now in
     sym (length-take-le _ file (subst (λ (n : ℕ). n ≤ length file) (sym (start .pre .end-is)) (events-within file)))
-
-play-requires : tie.Need-play-requires
-play-requires c κs = search needs
-
-same-length : tie.Need-same-length
-same-length c = search needs
-
-same-length-2 : tie.Need-same-length-2
-same-length-2 c = search needs
-
-same-length-3 : tie.Need-same-length-3
-same-length-3 c = search needs
-
-same-length-4 : tie.Need-same-length-4
-same-length-4 c = search needs
-
-same-length-5 : tie.Need-same-length-5
-same-length-5 c = search needs
-
-same-length-6 : tie.Need-same-length-6
-same-length-6 c = search needs
-
-same-length-7 : tie.Need-same-length-7
-same-length-7 c = search needs
 
 returns : tie.Need-returns
 returns c =
@@ -65,9 +35,6 @@ returns c =
       play-yes-answers (a .file .now) (a .c) (start .pre) b h (a .answers .now) _ (e .1),
     )
 
-zeros-requires : tie.Need-zeros-requires
-zeros-requires c κs = search needs
-
 returns-2 : tie.Need-returns-2
 returns-2 c =
     let tested = c .before .before .before in
@@ -84,17 +51,17 @@ pub play-spec : {M : Type 1} → statement M
 play-spec =
     tie.close
     (tie.spec
-    refusal-requires
-    none-requires
+    (λ c κs. search needs)
+    (λ c κs. search needs)
     slice-aggregate-play
-    play-requires
-    same-length
-    same-length-2
-    same-length-3
-    same-length-4
-    same-length-5
-    same-length-6
-    same-length-7
+    (λ c κs. search needs)
+    (λ c. search needs)
+    (λ c. search needs)
+    (λ c. search needs)
+    (λ c. search needs)
+    (λ c. search needs)
+    (λ c. search needs)
+    (λ c. search needs)
     returns
-    zeros-requires
+    (λ c κs. search needs)
     returns-2)

@@ -5,12 +5,6 @@ use borrow.Author.Needs.{needs}
 use Rattle.showing.proofs.play.refusal.Statement.{statement}
 use Rattle.showing.proofs.play.refusal.Tie as tie
 
-none-requires : tie.Need-none-requires
-none-requires c κs = search needs
-
-too-many-requires : tie.Need-too-many-requires
-too-many-requires c κs = search needs
-
 returns : tie.Need-returns
 returns c =
     let none = sym (c .before .before .before .none .ensures) ∙ c .before .before .if1 .taken in
@@ -29,4 +23,4 @@ returns-3 c =
     rw some
 
 pub refusal-spec : {M : Type 1} → statement M
-refusal-spec = tie.close (tie.spec none-requires too-many-requires returns returns-2 returns-3)
+refusal-spec = tie.close (tie.spec (λ c κs. search needs) (λ c κs. search needs) returns returns-2 returns-3)

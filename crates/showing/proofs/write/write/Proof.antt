@@ -9,9 +9,6 @@ use borrow.Author.Needs.{needs}
 use Rattle.showing.proofs.write.write.Statement.{statement}
 use Rattle.showing.proofs.write.write.Tie as tie
 
-slice-aggregate-write-parts : tie.Need-slice-aggregate-write-parts
-slice-aggregate-write-parts c = search needs
-
 slice-aggregate-write-parts-2 : tie.Need-slice-aggregate-write-parts-2
 slice-aggregate-write-parts-2 c =
     let start = c .before .before .before .before .before .before in
@@ -25,14 +22,11 @@ write-parts-requires c κs =
     ap (λ (n : ℕ). unitsOf (a .form) (a .o) (take n (a .file .now)) (a .answers .now) (a .picture .now) (a .rows .now)) (start .pre .0)
     ∙ start .pre .1
 
-returns : tie.Need-returns
-returns c = search needs
-
 pub write-spec : {M : Type 1} → statement M
 write-spec =
     tie.close
     (tie.spec
-    slice-aggregate-write-parts
+    (λ c. search needs)
     slice-aggregate-write-parts-2
     write-parts-requires
-    returns)
+    (λ c. search needs))

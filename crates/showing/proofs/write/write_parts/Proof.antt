@@ -18,27 +18,6 @@ Inv-loop text₀ file form old new o events answers picture rows end from₀ t16
 abbrev μ-loop : tie.MeasureT-loop
 μ-loop text₀ file form old new o events answers picture rows end from₀ t16 text from = end - from
 
-count-requires : tie.Need-count-requires Inv-loop μ-loop
-count-requires c κs = search needs
-
-loop-holds : tie.Need-loop-holds Inv-loop μ-loop
-loop-holds c = search needs
-
-next-part-requires : tie.Need-next-part-requires Inv-loop μ-loop
-next-part-requires c κs = search needs
-
-slice-aggregate-write-all : tie.Need-slice-aggregate-write-all Inv-loop μ-loop
-slice-aggregate-write-all c = search needs
-
-write-all-requires : tie.Need-write-all-requires Inv-loop μ-loop
-write-all-requires c κs = search needs
-
-same-length : tie.Need-same-length Inv-loop μ-loop
-same-length c = search needs
-
-returns : tie.Need-returns Inv-loop μ-loop
-returns c = search needs
-
 slice-reshare-prefix-emit : tie.Need-slice-reshare-prefix-emit Inv-loop μ-loop
 slice-reshare-prefix-emit c = part-within (c .before .before .before .next-part .ensures)
 
@@ -54,25 +33,10 @@ emit-requires c κs =
     let next = c .before .before .before .before .next-part .result .next in
     part-is (c .before .before .before .before .next-part .ensures) ∙ ap (unitsFrom from (next - from)) p
 
-same-length-2 : tie.Need-same-length-2 Inv-loop μ-loop
-same-length-2 c = search needs
-
-returns-2 : tie.Need-returns-2 Inv-loop μ-loop
-returns-2 c = search needs
-
 loop-less : tie.Need-loop-less Inv-loop μ-loop
 loop-less c =
     let step = c .before .before .before .before .before .before in
     omega (arith, part-on (step .next-part .ensures), c .before .before .before .if1 .left, step .before .before .loop-test .taken)
-
-loop-again : tie.Need-loop-again Inv-loop μ-loop
-loop-again c = search needs
-
-same-length-3 : tie.Need-same-length-3 Inv-loop μ-loop
-same-length-3 c = search needs
-
-returns-3 : tie.Need-returns-3 Inv-loop μ-loop
-returns-3 c = search needs
 
 pub write-parts-spec : {M : Type 1} → statement M
 write-parts-spec =
@@ -80,19 +44,19 @@ write-parts-spec =
     (tie.spec
     Inv-loop
     μ-loop
-    count-requires
-    loop-holds
-    next-part-requires
-    slice-aggregate-write-all
-    write-all-requires
-    same-length
-    returns
+    (λ c κs. search needs)
+    (λ c. search needs)
+    (λ c κs. search needs)
+    (λ c. search needs)
+    (λ c κs. search needs)
+    (λ c. search needs)
+    (λ c. search needs)
     slice-reshare-prefix-emit
     slice-aggregate-emit
     emit-requires
-    same-length-2
-    returns-2
+    (λ c. search needs)
+    (λ c. search needs)
     loop-less
-    loop-again
-    same-length-3
-    returns-3)
+    (λ c. search needs)
+    (λ c. search needs)
+    (λ c. search needs))

@@ -18,20 +18,8 @@ abbrev μ-loop : tie.MeasureT-loop
 loop-holds : tie.Need-loop-holds Inv-loop μ-loop
 loop-holds c = lengths-first _
 
-event-at-requires : tie.Need-event-at-requires Inv-loop μ-loop
-event-at-requires c κs = search needs
-
-is-digested-requires : tie.Need-is-digested-requires Inv-loop μ-loop
-is-digested-requires c κs = search needs
-
-meet-requires : tie.Need-meet-requires Inv-loop μ-loop
-meet-requires c κs = search needs
-
 add-i : tie.Need-add-i Inv-loop μ-loop
 add-i c = omega (arith, c .before .before .before .before .before .before .before .before .before .before .before .before .before .before .before .before .before .before .before .before .before .before .loop-test .taken, c .before .before .before .before .before .before .before .before .before .before .before .before .before .before .before .before .before .before .before .before .before .before .before .before .before .before .before .before .before .before .fits .count)
-
-loop-less : tie.Need-loop-less Inv-loop μ-loop
-loop-less c = search needs
 
 loop-again : tie.Need-loop-again Inv-loop μ-loop
 loop-again c =
@@ -65,9 +53,6 @@ same-length-5 c = c .before .loop .inv .picture-long
 same-length-6 : tie.Need-same-length-6 Inv-loop μ-loop
 same-length-6 c = c .before .loop .inv .rows-long
 
-returns : tie.Need-returns Inv-loop μ-loop
-returns c = search needs
-
 pub meet-all-spec : {M : Type 1} → statement M
 meet-all-spec =
     tie.close
@@ -75,11 +60,11 @@ meet-all-spec =
     Inv-loop
     μ-loop
     loop-holds
-    event-at-requires
-    is-digested-requires
-    meet-requires
+    (λ c κs. search needs)
+    (λ c κs. search needs)
+    (λ c κs. search needs)
     add-i
-    loop-less
+    (λ c. search needs)
     loop-again
     same-length
     same-length-2
@@ -87,4 +72,4 @@ meet-all-spec =
     same-length-4
     same-length-5
     same-length-6
-    returns)
+    (λ c. search needs))
