@@ -6,12 +6,6 @@ use borrow.Author.Needs.{needs}
 use Rattle.arriving.proofs.foreign_contents.Statement.{statement}
 use Rattle.arriving.proofs.foreign_contents.Tie as tie
 
-all-states-requires : tie.Need-all-states-requires
-all-states-requires c κs = search needs
-
-all-numbers-requires : tie.Need-all-numbers-requires
-all-numbers-requires c κs = search needs
-
 returns : tie.Need-returns
 unfolding seven
 returns c = yes _ (sym (c .before .before .before .all-states .ensures) ∙ c .before .before .if1 .taken) (yes _ (sym (c .before .all-numbers .ensures) ∙ c .if2 .taken) refl)
@@ -26,4 +20,4 @@ returns-3 c = no _ (sym (c .before .all-states .ensures) ∙ c .if1 .left) refl
 
 pub foreign-contents-spec : {M : Type 1} → statement M
 foreign-contents-spec =
-    tie.close (tie.spec all-states-requires all-numbers-requires returns returns-2 returns-3)
+    tie.close (tie.spec (λ c κs. search needs) (λ c κs. search needs) returns returns-2 returns-3)

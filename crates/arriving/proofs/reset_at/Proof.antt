@@ -12,18 +12,6 @@ arrive-requires c κs = ready-arrive _ _ _ (c .before .before .before .before .b
 reset-edge-requires : tie.Need-reset-edge-requires
 reset-edge-requires c κs = ready-after _ _ _ _ (c .before .before .before .before .before .before .before .before .before .before .before .before .before .before .before .before .before .pre) (c .before .before .before .before .before .before .before .before .arrive .ensures (c .before .before .before .before .before .before .before .before .before .before .before .before .before .before .before .before .before .args .rows .now))
 
-same-length : tie.Need-same-length
-same-length c = search needs
-
-same-length-2 : tie.Need-same-length-2
-same-length-2 c = search needs
-
-same-length-3 : tie.Need-same-length-3
-same-length-3 c = search needs
-
-same-length-4 : tie.Need-same-length-4
-same-length-4 c = search needs
-
 returns : tie.Need-returns
 returns c = after (resetEdge (c .before .before .before .before .before .before .before .before .before .before .before .before .before .before .before .before .before .before .before .before .before .before .before .args .asserted)) _ _ _ (c .before .before .before .before .before .before .before .before .before .before .before .before .before .before .arrive .ensures (c .before .before .before .before .before .before .before .before .before .before .before .before .before .before .before .before .before .before .before .before .before .before .before .args .rows .now)) (c .before .before .before .before .before .reset-edge .ensures _ _)
 
@@ -33,8 +21,8 @@ reset-at-spec =
     (tie.spec
     arrive-requires
     reset-edge-requires
-    same-length
-    same-length-2
-    same-length-3
-    same-length-4
+    (λ c. search needs)
+    (λ c. search needs)
+    (λ c. search needs)
+    (λ c. search needs)
     returns)

@@ -7,21 +7,9 @@ use borrow.Author.Needs.{needs}
 use Rattle.arriving.proofs.turned_back.Statement.{statement}
 use Rattle.arriving.proofs.turned_back.Tie as tie
 
-foreign-requires : tie.Need-foreign-requires
-foreign-requires c κs = search needs
-
 returns : tie.Need-returns
 unfolding turnedBack
 returns c = yes _ (sym (c .before .foreign .ensures) ∙ c .if1 .taken) refl
-
-lengths-fit-requires : tie.Need-lengths-fit-requires
-lengths-fit-requires c κs = search needs
-
-ends-refresh-requires : tie.Need-ends-refresh-requires
-ends-refresh-requires c κs = search needs
-
-foreign-contents-requires : tie.Need-foreign-contents-requires
-foreign-contents-requires c κs = search needs
 
 returns-2 : tie.Need-returns-2
 unfolding turnedBack
@@ -39,11 +27,11 @@ pub turned-back-spec : {M : Type 1} → statement M
 turned-back-spec =
     tie.close
     (tie.spec
-    foreign-requires
+    (λ c κs. search needs)
     returns
-    lengths-fit-requires
-    ends-refresh-requires
-    foreign-contents-requires
+    (λ c κs. search needs)
+    (λ c κs. search needs)
+    (λ c κs. search needs)
     returns-2
     returns-3
     returns-4)

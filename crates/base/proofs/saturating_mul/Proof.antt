@@ -10,9 +10,6 @@ use Rattle.base.proofs.saturating_mul.Tie as tie
 returns : tie.Need-returns
 returns c = rw (c .if1 .taken) (omega (arith, mul-zero (c .before .args .a)))
 
-div-if2 : tie.Need-div-if2
-div-if2 c = search needs
-
 mul-result : tie.Need-mul-result
 mul-result c = record { fits = omega (arith, product-within top (c .before .before .args .a) (c .before .before .args .b) (omega arith) (omega arith)) }
 
@@ -23,4 +20,4 @@ returns-3 : tie.Need-returns-3
 returns-3 c = omega (arith, product-within top (c .before .before .args .a) (c .before .before .args .b) (omega arith) (omega arith))
 
 pub saturating-mul-spec : {M : Type 1} → statement M
-saturating-mul-spec = tie.close (tie.spec returns div-if2 mul-result returns-2 returns-3)
+saturating-mul-spec = tie.close (tie.spec returns (λ c. search needs) mul-result returns-2 returns-3)

@@ -4,15 +4,9 @@ use borrow.Author.Needs.{needs}
 use Rattle.command_bytes.proofs.begin.Statement.{statement}
 use Rattle.command_bytes.proofs.begin.Tie as tie
 
-written-requires : tie.Need-written-requires
-written-requires c κs = search needs
-
-with-current-requires : tie.Need-with-current-requires
-with-current-requires c κs = search needs
-
 returns : tie.Need-returns
 unfolding begun
 returns c = simp (c .with-current .ensures, c .before .written .ensures)
 
 pub begin-spec : {M : Type 1} → statement M
-begin-spec = tie.close (tie.spec written-requires with-current-requires returns)
+begin-spec = tie.close (tie.spec (λ c κs. search needs) (λ c κs. search needs) returns)

@@ -6,22 +6,10 @@ use borrow.Author.Needs.{needs}
 use Rattle.command_bytes.proofs.command_byte.Statement.{statement}
 use Rattle.command_bytes.proofs.command_byte.Tie as tie
 
-close-requires : tie.Need-close-requires
-close-requires c κs = search needs
-
-pass-requires : tie.Need-pass-requires
-pass-requires c κs = search needs
-
-same-length : tie.Need-same-length
-same-length c = search needs
-
-same-length-2 : tie.Need-same-length-2
-same-length-2 c = search needs
-
 returns : tie.Need-returns
 unfolding commandByte
 returns c = λ states picture. let g = c .before .before .before .before .before .before .before .before .before .before .before .before .before .before .before .args in let w = world (g .p) (buffers (g .old .now) (g .new .now) states (g .table-numbers .now) picture (g .rows .now)) in c .before .before .before .before .pass .ensures states picture ∙ ap (λ (v : World). passed (g .command) v) (c .before .before .before .before .before .before .before .before .before .close .ensures (w .lent))
 
 pub command-byte-spec : {M : Type 1} → statement M
 command-byte-spec =
-    tie.close (tie.spec close-requires pass-requires same-length same-length-2 returns)
+    tie.close (tie.spec (λ c κs. search needs) (λ c κs. search needs) (λ c. search needs) (λ c. search needs) returns)

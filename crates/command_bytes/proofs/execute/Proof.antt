@@ -11,29 +11,14 @@ use Rattle.command_bytes.proofs.execute.Tie as tie
 returns : tie.Need-returns
 returns c = λ states picture. pon-on _ (c .before .match .keys1) (c .if1 .taken)
 
-start-requires : tie.Need-start-requires
-start-requires c κs = search needs
-
-start-requires-2 : tie.Need-start-requires-2
-start-requires-2 c κs = search needs
-
 returns-2 : tie.Need-returns-2
 returns-2 c = λ states picture. let g = c .before .before .before .before .before .before .before .args in let w = world (g .p) (buffers (g .old .now) (g .new .now) states (g .table-numbers .now) picture (g .rows .now)) in pof-on w (c .before .before .match .keys2) (c .before .if2 .taken) (changed (starting work.PowerOff (g .p .config .timing .«power_off»)) (g .p) (c .start2 .ensures))
-
-refresh-requires : tie.Need-refresh-requires
-refresh-requires c κs = search needs
 
 returns-3 : tie.Need-returns-3
 returns-3 c = λ states picture. let g = c .before .before .before .before .before .before .before .args in let w = world (g .p) (buffers (g .old .now) (g .new .now) states (g .table-numbers .now) picture (g .rows .now)) in pon-off w (c .before .before .match .keys1) (c .before .if1 .left) (changed (starting work.PowerOn (g .p .config .timing .«power_on»)) (g .p) (c .start .ensures))
 
 returns-4 : tie.Need-returns-4
 returns-4 c = λ states picture. pof-off _ (c .before .match .keys2) (c .if2 .left)
-
-same-length : tie.Need-same-length
-same-length c = search needs
-
-same-length-2 : tie.Need-same-length-2
-same-length-2 c = search needs
 
 returns-5 : tie.Need-returns-5
 returns-5 c = λ states picture. let g = c .before .before .before .before .before .before .before .before .before .before .before .before .args in let w = world (g .p) (buffers (g .old .now) (g .new .now) states (g .table-numbers .now) picture (g .rows .now)) in drf w (c .before .before .before .before .before .before .before .match .keys3) (c .before .before .before .before .refresh .ensures states picture)
@@ -58,14 +43,14 @@ execute-spec =
     tie.close
     (tie.spec
     returns
-    start-requires
-    start-requires-2
+    (λ c κs. search needs)
+    (λ c κs. search needs)
     returns-2
-    refresh-requires
+    (λ c κs. search needs)
     returns-3
     returns-4
-    same-length
-    same-length-2
+    (λ c. search needs)
+    (λ c. search needs)
     returns-5
     returns-6
     returns-7

@@ -10,36 +10,9 @@ use borrow.Author.Needs.{needs}
 use Rattle.command_bytes.proofs.pass.Statement.{statement}
 use Rattle.command_bytes.proofs.pass.Tie as tie
 
-barred-requires : tie.Need-barred-requires
-barred-requires c κs = search needs
-
-enum-told : tie.Need-enum-told
-enum-told c = search needs
-
-accept-requires : tie.Need-accept-requires
-accept-requires c κs = search needs
-
-enum-known-note : tie.Need-enum-known-note
-enum-known-note c = search needs
-
-tell-requires : tie.Need-tell-requires
-tell-requires c κs = search needs
-
-with-current-requires : tie.Need-with-current-requires
-with-current-requires c κs = search needs
-
-same-length : tie.Need-same-length
-same-length c = search needs
-
-same-length-2 : tie.Need-same-length-2
-same-length-2 c = search needs
-
 returns : tie.Need-returns
 unfolding passed
 returns c = λ states picture. let g = c .before .before .before .before .before .before .before .before .before .before .before .before .before .before .before .before .args in let w = world (g .p) (buffers (g .old .now) (g .new .now) states (g .table-numbers .now) picture (g .rows .now)) in in-case (λ (n : Note). passedBy n (g .command) w) (sym (c .before .before .before .before .before .before .before .before .before .barred .ensures) ∙ c .before .before .before .before .before .before .before .enum-told .given .1) (c .before .before .before .before .accept .ensures states picture)
-
-same-length-3 : tie.Need-same-length-3
-same-length-3 c = search needs
 
 returns-2 : tie.Need-returns-2
 unfolding passed
@@ -49,14 +22,14 @@ pub pass-spec : {M : Type 1} → statement M
 pass-spec =
     tie.close
     (tie.spec
-    barred-requires
-    enum-told
-    accept-requires
-    enum-known-note
-    tell-requires
-    with-current-requires
-    same-length
-    same-length-2
+    (λ c κs. search needs)
+    (λ c. search needs)
+    (λ c κs. search needs)
+    (λ c. search needs)
+    (λ c κs. search needs)
+    (λ c κs. search needs)
+    (λ c. search needs)
+    (λ c. search needs)
     returns
-    same-length-3
+    (λ c. search needs)
     returns-2)

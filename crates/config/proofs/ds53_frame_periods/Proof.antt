@@ -18,21 +18,6 @@ abbrev μ-loop : tie.MeasureT-loop
 loop-holds : tie.Need-loop-holds Inv-loop μ-loop
 loop-holds c = (refl, omega arith, refl)
 
-cast-ds53-frame-period : tie.Need-cast-ds53-frame-period Inv-loop μ-loop
-cast-ds53-frame-period c = search needs
-
-ds53-frame-period-requires : tie.Need-ds53-frame-period-requires Inv-loop μ-loop
-ds53-frame-period-requires c κs = search needs
-
-mul-periods : tie.Need-mul-periods Inv-loop μ-loop
-mul-periods c = search needs
-
-array-write-periods : tie.Need-array-write-periods Inv-loop μ-loop
-array-write-periods c = search needs
-
-add-code : tie.Need-add-code Inv-loop μ-loop
-add-code c = search needs
-
 loop-less : tie.Need-loop-less Inv-loop μ-loop
 loop-less c = omega arith
 
@@ -56,11 +41,11 @@ ds53-frame-periods-spec =
     Inv-loop
     μ-loop
     loop-holds
-    cast-ds53-frame-period
-    ds53-frame-period-requires
-    mul-periods
-    array-write-periods
-    add-code
+    (λ c. search needs)
+    (λ c κs. search needs)
+    (λ c. search needs)
+    (λ c. search needs)
+    (λ c. search needs)
     loop-less
     loop-again
     returns)

@@ -3,11 +3,8 @@ use borrow.Author.Needs.{needs}
 use Rattle.data_bytes.proofs.more.Statement.{statement}
 use Rattle.data_bytes.proofs.more.Tie as tie
 
-counted-requires : tie.Need-counted-requires
-counted-requires c κs = search needs
-
 returns : tie.Need-returns
 returns c = simp (c .counted .ensures)
 
 pub more-spec : {M : Type 1} → statement M
-more-spec = tie.close (tie.spec counted-requires returns)
+more-spec = tie.close (tie.spec (λ c κs. search needs) returns)

@@ -6,21 +6,9 @@ use borrow.Author.Needs.{needs}
 use Rattle.data_bytes.proofs.past_window.Statement.{statement}
 use Rattle.data_bytes.proofs.past_window.Tie as tie
 
-with-current-requires : tie.Need-with-current-requires
-with-current-requires c κs = search needs
-
 returns : tie.Need-returns
 unfolding pastWindow
 returns c = λ b. let g = c .before .before .before .args in yes _ (c .before .if1 .taken) (changed (under (g .a)) (g .p) (c .with-current .ensures))
-
-tell-requires : tie.Need-tell-requires
-tell-requires c κs = search needs
-
-with-current-requires-2 : tie.Need-with-current-requires-2
-with-current-requires-2 c κs = search needs
-
-same-length : tie.Need-same-length
-same-length c = search needs
 
 returns-2 : tie.Need-returns-2
 unfolding pastWindow
@@ -30,9 +18,9 @@ pub past-window-spec : {M : Type 1} → statement M
 past-window-spec =
     tie.close
     (tie.spec
-    with-current-requires
+    (λ c κs. search needs)
     returns
-    tell-requires
-    with-current-requires-2
-    same-length
+    (λ c κs. search needs)
+    (λ c κs. search needs)
+    (λ c. search needs)
     returns-2)

@@ -12,81 +12,6 @@ use borrow.Author.Needs.{needs}
 use Rattle.data_bytes.proofs.take_byte.Statement.{statement}
 use Rattle.data_bytes.proofs.take_byte.Tie as tie
 
-more-requires : tie.Need-more-requires
-more-requires c κs = search needs
-
-purpose-requires : tie.Need-purpose-requires
-purpose-requires c κs = search needs
-
-enum-told : tie.Need-enum-told
-enum-told c = search needs
-
-tell-requires : tie.Need-tell-requires
-tell-requires c κs = search needs
-
-with-current-requires : tie.Need-with-current-requires
-with-current-requires c κs = search needs
-
-enum-told-2 : tie.Need-enum-told-2
-enum-told-2 c = search needs
-
-with-current-requires-2 : tie.Need-with-current-requires-2
-with-current-requires-2 c κs = search needs
-
-enum-told-3 : tie.Need-enum-told-3
-enum-told-3 c = search needs
-
-soft-reset-requires : tie.Need-soft-reset-requires
-soft-reset-requires c κs = search needs
-
-softly-requires : tie.Need-softly-requires
-softly-requires c κs = search needs
-
-with-current-requires-3 : tie.Need-with-current-requires-3
-with-current-requires-3 c κs = search needs
-
-enum-told-4 : tie.Need-enum-told-4
-enum-told-4 c = search needs
-
-start-requires : tie.Need-start-requires
-start-requires c κs = search needs
-
-with-current-requires-4 : tie.Need-with-current-requires-4
-with-current-requires-4 c κs = search needs
-
-enum-told-5 : tie.Need-enum-told-5
-enum-told-5 c = search needs
-
-tell-requires-2 : tie.Need-tell-requires-2
-tell-requires-2 c κs = search needs
-
-with-current-requires-5 : tie.Need-with-current-requires-5
-with-current-requires-5 c κs = search needs
-
-enum-told-6 : tie.Need-enum-told-6
-enum-told-6 c = search needs
-
-register-byte-requires : tie.Need-register-byte-requires
-register-byte-requires c κs = search needs
-
-with-current-requires-6 : tie.Need-with-current-requires-6
-with-current-requires-6 c κs = search needs
-
-enum-told-7 : tie.Need-enum-told-7
-enum-told-7 c = search needs
-
-pixel-byte-requires : tie.Need-pixel-byte-requires
-pixel-byte-requires c κs = search needs
-
-enum-told-8 : tie.Need-enum-told-8
-enum-told-8 c = search needs
-
-pixel-byte-requires-2 : tie.Need-pixel-byte-requires-2
-pixel-byte-requires-2 c κs = search needs
-
-same-length : tie.Need-same-length
-same-length c = search needs
-
 returns : tie.Need-returns
 returns c = λ states numbers picture. let g = c .before .before .before .before .before .before .before .before .before .before .before .before .args in let w = world (g .p) (buffers (g .old .now) (g .new .now) states numbers picture (g .rows .now)) in in-case (λ (u : Use). usedBy u (g .a) (g .byte) w) (sym (c .before .before .before .before .before .before .before .purpose .ensures) ∙ c .before .before .before .before .before .enum-told .given .1) (then (under (extraOf (moreOf (g .a)))) (set (c .before .before .before .tell .result) (c .with-current .ensures) (ap (λ (x : Active). extraOf x) (c .before .before .before .before .before .before .before .before .more .ensures))) (c .before .before .before .tell .ensures (w .lent)))
 
@@ -99,29 +24,14 @@ returns-3 c = λ states numbers picture. let g = c .before .before .before .befo
 returns-4 : tie.Need-returns-4
 returns-4 c = λ states numbers picture. let g = c .before .before .before .before .before .before .before .before .before .args in let w = world (g .p) (buffers (g .old .now) (g .new .now) states numbers picture (g .rows .now)) in in-case (λ (u : Use). usedBy u (g .a) (g .byte) w) (sym (c .before .before .before .before .purpose .ensures) ∙ c .before .before .enum-told4 .given .1) (changed (λ (q : Uc8253). under (moreOf (g .a)) (starting work.DeepSleep (q .config .timing .«deep_sleep») q)) (g .p) (put (c .with-current4 .ensures) (c .before .before .before .before .before .more .ensures) (c .before .start .ensures)))
 
-same-length-2 : tie.Need-same-length-2
-same-length-2 c = search needs
-
 returns-5 : tie.Need-returns-5
 returns-5 c = λ states numbers picture. let g = c .before .before .before .before .before .before .before .before .before .before .before .before .args in let w = world (g .p) (buffers (g .old .now) (g .new .now) states numbers picture (g .rows .now)) in in-case (λ (u : Use). usedBy u (g .a) (g .byte) w) (sym (c .before .before .before .before .before .before .before .purpose .ensures) ∙ c .before .before .before .before .before .enum-told5 .given .1) (then (under (moreOf (g .a))) (set (c .before .before .before .tell2 .result) (c .with-current5 .ensures) (c .before .before .before .before .before .before .before .before .more .ensures)) (c .before .before .before .tell2 .ensures (w .lent)))
 
 returns-6 : tie.Need-returns-6
 returns-6 c = λ states numbers picture. let g = c .before .before .before .before .before .before .before .before .before .args in let w = world (g .p) (buffers (g .old .now) (g .new .now) states numbers picture (g .rows .now)) in in-case (λ (u : Use). usedBy u (g .a) (g .byte) w) (sym (c .before .before .before .before .purpose .ensures) ∙ c .before .before .enum-told6 .given .1) (changed (λ (q : Uc8253). under (moreOf (g .a)) (registerByte (g .a) (g .byte) q)) (g .p) (put (c .with-current6 .ensures) (c .before .before .before .before .before .more .ensures) (c .before .register-byte .ensures)))
 
-same-length-3 : tie.Need-same-length-3
-same-length-3 c = search needs
-
-same-length-4 : tie.Need-same-length-4
-same-length-4 c = search needs
-
 returns-7 : tie.Need-returns-7
 returns-7 c = λ states numbers picture. let g = c .before .before .before .before .before .before .before .before .before .before .before .before .before .before .args in let w = world (g .p) (buffers (g .old .now) (g .new .now) states numbers picture (g .rows .now)) in in-case (λ (u : Use). usedBy u (g .a) (g .byte) w) (sym (c .before .before .before .before .before .before .before .before .before .purpose .ensures) ∙ c .before .before .before .before .before .before .before .enum-told7 .given .1) (c .before .before .before .before .pixel-byte .ensures .0 (w .lent) ∙ ap (λ (x : Active). olderByte x (g .byte) w) (c .before .before .before .before .before .before .before .before .before .before .more .ensures))
-
-same-length-5 : tie.Need-same-length-5
-same-length-5 c = search needs
-
-same-length-6 : tie.Need-same-length-6
-same-length-6 c = search needs
 
 returns-8 : tie.Need-returns-8
 returns-8 c = λ states numbers picture. let g = c .before .before .before .before .before .before .before .before .before .before .before .before .before .before .args in let w = world (g .p) (buffers (g .old .now) (g .new .now) states numbers picture (g .rows .now)) in in-case (λ (u : Use). usedBy u (g .a) (g .byte) w) (sym (c .before .before .before .before .before .before .before .before .before .purpose .ensures) ∙ c .before .before .before .before .before .before .before .enum-told8 .given .1) (c .before .before .before .before .pixel-byte2 .ensures .1 (w .lent) ∙ ap (λ (x : Active). newerByte x (g .byte) w) (c .before .before .before .before .before .before .before .before .before .before .more .ensures))
@@ -130,41 +40,41 @@ pub take-byte-spec : {M : Type 1} → statement M
 take-byte-spec =
     tie.close
     (tie.spec
-    more-requires
-    purpose-requires
-    enum-told
-    tell-requires
-    with-current-requires
-    enum-told-2
-    with-current-requires-2
-    enum-told-3
-    soft-reset-requires
-    softly-requires
-    with-current-requires-3
-    enum-told-4
-    start-requires
-    with-current-requires-4
-    enum-told-5
-    tell-requires-2
-    with-current-requires-5
-    enum-told-6
-    register-byte-requires
-    with-current-requires-6
-    enum-told-7
-    pixel-byte-requires
-    enum-told-8
-    pixel-byte-requires-2
-    same-length
+    (λ c κs. search needs)
+    (λ c κs. search needs)
+    (λ c. search needs)
+    (λ c κs. search needs)
+    (λ c κs. search needs)
+    (λ c. search needs)
+    (λ c κs. search needs)
+    (λ c. search needs)
+    (λ c κs. search needs)
+    (λ c κs. search needs)
+    (λ c κs. search needs)
+    (λ c. search needs)
+    (λ c κs. search needs)
+    (λ c κs. search needs)
+    (λ c. search needs)
+    (λ c κs. search needs)
+    (λ c κs. search needs)
+    (λ c. search needs)
+    (λ c κs. search needs)
+    (λ c κs. search needs)
+    (λ c. search needs)
+    (λ c κs. search needs)
+    (λ c. search needs)
+    (λ c κs. search needs)
+    (λ c. search needs)
     returns
     returns-2
     returns-3
     returns-4
-    same-length-2
+    (λ c. search needs)
     returns-5
     returns-6
-    same-length-3
-    same-length-4
+    (λ c. search needs)
+    (λ c. search needs)
     returns-7
-    same-length-5
-    same-length-6
+    (λ c. search needs)
+    (λ c. search needs)
     returns-8)

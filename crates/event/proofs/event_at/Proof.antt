@@ -4,26 +4,8 @@ use borrow.Author.Needs.{needs}
 use Rattle.event.proofs.event_at.Statement.{statement}
 use Rattle.event.proofs.event_at.Tie as tie
 
-whole-event-requires : tie.Need-whole-event-requires
-whole-event-requires c κs = search needs
-
-returns : tie.Need-returns
-returns c = search needs
-
 returns-2 : tie.Need-returns-2
 returns-2 c = event-past (c .before .before .before .args .events .now) (c .before .before .before .args .index) (c .if2 .taken)
-
-mul-place : tie.Need-mul-place
-mul-place c = search needs
-
-little-requires : tie.Need-little-requires
-little-requires c κs = search needs
-
-byte-requires : tie.Need-byte-requires
-byte-requires c κs = search needs
-
-byte-requires-2 : tie.Need-byte-requires-2
-byte-requires-2 c κs = search needs
 
 returns-3 : tie.Need-returns-3
 returns-3 c = event-read (c .before .before .before .before .before .before .args .events .now) (c .before .before .before .before .before .before .args .index) _ _ _ (c .before .before .little .ensures) (c .before .byte .ensures) (c .byte2 .ensures)
@@ -32,11 +14,11 @@ pub event-at-spec : {M : Type 1} → statement M
 event-at-spec =
     tie.close
     (tie.spec
-    whole-event-requires
-    returns
+    (λ c κs. search needs)
+    (λ c. search needs)
     returns-2
-    mul-place
-    little-requires
-    byte-requires
-    byte-requires-2
+    (λ c. search needs)
+    (λ c κs. search needs)
+    (λ c κs. search needs)
+    (λ c κs. search needs)
     returns-3)

@@ -18,33 +18,15 @@ returns c = rw (c .if2 .taken) (omega (arith, div-zero (2 * (c .before .before .
 returns-2 : tie.Need-returns-2
 returns-2 c = gray-white (c .before .before .args .state) (c .before .before .args .swing) (omega arith) (omega arith)
 
-mul-result : tie.Need-mul-result
-mul-result c = search needs
-
-add-result : tie.Need-add-result
-add-result c = search needs
-
-mul-result-2 : tie.Need-mul-result-2
-mul-result-2 c = search needs
-
-div-result : tie.Need-div-result
-div-result c = search needs
-
 cast-result : tie.Need-cast-result
 cast-result c =
     let s = c .before .before in
     record { fits = omega (arith, quotient (s .args .state) (s .args .swing), rounded-fits (s .args .state) (s .args .swing) (omega arith) (omega arith)) }
 
-gray-wide-requires : tie.Need-gray-wide-requires
-gray-wide-requires c κs = search needs
-
 returns-3 : tie.Need-returns-3
 returns-3 c =
     let s = c .before .before in
     omega (arith, quotient (s .args .state) (s .args .swing), rounded-fits (s .args .state) (s .args .swing) (omega arith) (omega arith))
-
-returns-4 : tie.Need-returns-4
-returns-4 c = search needs
 
 pub gray-spec : {M : Type 1} → statement M
 gray-spec =
@@ -52,11 +34,11 @@ gray-spec =
     (tie.spec
     returns
     returns-2
-    mul-result
-    add-result
-    mul-result-2
-    div-result
+    (λ c. search needs)
+    (λ c. search needs)
+    (λ c. search needs)
+    (λ c. search needs)
     cast-result
-    gray-wide-requires
+    (λ c κs. search needs)
     returns-3
-    returns-4)
+    (λ c. search needs))

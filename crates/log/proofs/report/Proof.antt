@@ -11,24 +11,6 @@ use Rattle.log.proofs.LogLaws.{reported-room, reported-full, rows-room,
 use Rattle.log.proofs.report.Statement.{statement}
 use Rattle.log.proofs.report.Tie as tie
 
-cast-stored : tie.Need-cast-stored
-cast-stored c = search needs
-
-row-requires : tie.Need-row-requires
-row-requires c κs = search needs
-
-mul-put-row : tie.Need-mul-put-row
-mul-put-row c = search needs
-
-put-row-requires : tie.Need-put-row-requires
-put-row-requires c κs = search needs
-
-add-t12 : tie.Need-add-t12
-add-t12 c = search needs
-
-same-length : tie.Need-same-length
-same-length c = search needs
-
 returns : tie.Need-returns
 returns c =
     let a = c .before .before .before .before .before .before .before .before .before .args in (
@@ -37,9 +19,6 @@ returns c =
           ∙ ap (putRow (now (a .rows)) (5 * a .log .stored)) (c .before .before .before .before .before .row .ensures)
           ∙ sym (rows-room (a .log) (a .at) (a .kind) (now (a .rows)) (omega arith)),
     )
-
-saturating-add-requires : tie.Need-saturating-add-requires
-saturating-add-requires c κs = search needs
 
 returns-2 : tie.Need-returns-2
 returns-2 c =
@@ -53,12 +32,12 @@ pub report-spec : {M : Type 1} → statement M
 report-spec =
     tie.close
     (tie.spec
-    cast-stored
-    row-requires
-    mul-put-row
-    put-row-requires
-    add-t12
-    same-length
+    (λ c. search needs)
+    (λ c κs. search needs)
+    (λ c. search needs)
+    (λ c κs. search needs)
+    (λ c. search needs)
+    (λ c. search needs)
     returns
-    saturating-add-requires
+    (λ c κs. search needs)
     returns-2)

@@ -7,15 +7,6 @@ use borrow.Author.Needs.{needs}
 use Rattle.making.proofs.making_refused.Statement.{statement}
 use Rattle.making.proofs.making_refused.Tie as tie
 
-validate-requires : tie.Need-validate-requires
-validate-requires c κs = search needs
-
-none-requires : tie.Need-none-requires
-none-requires c κs = search needs
-
-lengths-fit-requires : tie.Need-lengths-fit-requires
-lengths-fit-requires c κs = search needs
-
 returns : tie.Need-returns
 unfolding makingRefused
 returns c = yes _ (told (c .before .before .before .none .ensures) (c .before .before .before .before .validate .ensures) (c .before .before .if1 .taken)) (yes _ (sym (c .before .lengths-fit .ensures) ∙ c .if2 .taken) refl)
@@ -31,4 +22,4 @@ returns-3 c = no _ (told (c .before .none .ensures) (c .before .before .validate
 pub making-refused-spec : {M : Type 1} → statement M
 making-refused-spec =
     tie.close
-    (tie.spec validate-requires none-requires lengths-fit-requires returns returns-2 returns-3)
+    (tie.spec (λ c κs. search needs) (λ c κs. search needs) (λ c κs. search needs) returns returns-2 returns-3)

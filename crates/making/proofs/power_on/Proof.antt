@@ -10,39 +10,6 @@ use borrow.Author.Needs.{needs}
 use Rattle.making.proofs.power_on.Statement.{statement}
 use Rattle.making.proofs.power_on.Tie as tie
 
-making-refused-requires : tie.Need-making-refused-requires
-making-refused-requires c κs = search needs
-
-none-requires : tie.Need-none-requires
-none-requires c κs = search needs
-
-fill-bytes-requires : tie.Need-fill-bytes-requires
-fill-bytes-requires c κs = search needs
-
-fill-bytes-requires-2 : tie.Need-fill-bytes-requires-2
-fill-bytes-requires-2 c κs = search needs
-
-level-requires : tie.Need-level-requires
-level-requires c κs = search needs
-
-fill-states-requires : tie.Need-fill-states-requires
-fill-states-requires c κs = search needs
-
-fill-bytes-requires-3 : tie.Need-fill-bytes-requires-3
-fill-bytes-requires-3 c κs = search needs
-
-fill-bytes-requires-4 : tie.Need-fill-bytes-requires-4
-fill-bytes-requires-4 c κs = search needs
-
-fill-words-requires : tie.Need-fill-words-requires
-fill-words-requires c κs = search needs
-
-reset-requires : tie.Need-reset-requires
-reset-requires c κs = search needs
-
-untouched-requires : tie.Need-untouched-requires
-untouched-requires c κs = search needs
-
 same-length : tie.Need-same-length
 same-length c = c .before .before .before .before .before .before .before .before .before .before .before .before .before .before .before .before .before .before .before .before .before .before .before .before .fill-bytes .kept .0
 
@@ -54,12 +21,6 @@ same-length-3 c = c .before .before .before .before .before .before .before .bef
 
 same-length-4 : tie.Need-same-length-4
 same-length-4 c = c .before .before .before .before .before .before .before .before .before .before .before .before .fill-bytes3 .kept .0
-
-same-length-5 : tie.Need-same-length-5
-same-length-5 c = search needs
-
-same-length-6 : tie.Need-same-length-6
-same-length-6 c = search needs
 
 returns : tie.Need-returns
 unfolding firstChip
@@ -78,27 +39,6 @@ returns c = let a = c .before .before .before .before .before .before .before .b
   c .before .before .before .before .before .before .before .before .before .before .before .before .before .before .before .before .before .before .before .before .before .before .before .before .before .before .before .before .before .making-refused .ensures,
 )
 
-zeros-requires : tie.Need-zeros-requires
-zeros-requires c κs = search needs
-
-same-length-7 : tie.Need-same-length-7
-same-length-7 c = search needs
-
-same-length-8 : tie.Need-same-length-8
-same-length-8 c = search needs
-
-same-length-9 : tie.Need-same-length-9
-same-length-9 c = search needs
-
-same-length-10 : tie.Need-same-length-10
-same-length-10 c = search needs
-
-same-length-11 : tie.Need-same-length-11
-same-length-11 c = search needs
-
-same-length-12 : tie.Need-same-length-12
-same-length-12 c = search needs
-
 returns-2 : tie.Need-returns-2
 returns-2 c = (made-none (c .before .before .before .before .before .before .before .before .before .before .before .before .before .before .before .args .config) _ _ (told (c .before .before .none .ensures) (c .before .before .before .making-refused .ensures) (c .before .if1 .left)) (c .zeros .ensures), c .before .before .before .making-refused .ensures)
 
@@ -106,29 +46,29 @@ pub power-on-spec : {M : Type 1} → statement M
 power-on-spec =
     tie.close
     (tie.spec
-    making-refused-requires
-    none-requires
-    fill-bytes-requires
-    fill-bytes-requires-2
-    level-requires
-    fill-states-requires
-    fill-bytes-requires-3
-    fill-bytes-requires-4
-    fill-words-requires
-    reset-requires
-    untouched-requires
+    (λ c κs. search needs)
+    (λ c κs. search needs)
+    (λ c κs. search needs)
+    (λ c κs. search needs)
+    (λ c κs. search needs)
+    (λ c κs. search needs)
+    (λ c κs. search needs)
+    (λ c κs. search needs)
+    (λ c κs. search needs)
+    (λ c κs. search needs)
+    (λ c κs. search needs)
     same-length
     same-length-2
     same-length-3
     same-length-4
-    same-length-5
-    same-length-6
+    (λ c. search needs)
+    (λ c. search needs)
     returns
-    zeros-requires
-    same-length-7
-    same-length-8
-    same-length-9
-    same-length-10
-    same-length-11
-    same-length-12
+    (λ c κs. search needs)
+    (λ c. search needs)
+    (λ c. search needs)
+    (λ c. search needs)
+    (λ c. search needs)
+    (λ c. search needs)
+    (λ c. search needs)
     returns-2)

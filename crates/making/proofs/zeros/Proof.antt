@@ -4,19 +4,10 @@ use borrow.Author.Needs.{needs}
 use Rattle.making.proofs.zeros.Statement.{statement}
 use Rattle.making.proofs.zeros.Tie as tie
 
-no-config-requires : tie.Need-no-config-requires
-no-config-requires c κs = search needs
-
-no-registers-requires : tie.Need-no-registers-requires
-no-registers-requires c κs = search needs
-
-untouched-requires : tie.Need-untouched-requires
-untouched-requires c κs = search needs
-
 returns : tie.Need-returns
 unfolding zeros
 returns c = simp (c .untouched .ensures, c .before .before .no-config .ensures, c .before .no-registers .ensures)
 
 pub zeros-spec : {M : Type 1} → statement M
 zeros-spec =
-    tie.close (tie.spec no-config-requires no-registers-requires untouched-requires returns)
+    tie.close (tie.spec (λ c κs. search needs) (λ c κs. search needs) (λ c κs. search needs) returns)

@@ -20,45 +20,6 @@ abbrev μ-loop : tie.MeasureT-loop
 loop-holds : tie.Need-loop-holds Inv-loop μ-loop
 loop-holds c = (refl, omega arith, refl)
 
-sub-o : tie.Need-sub-o Inv-loop μ-loop
-sub-o c = search needs
-
-cast-o : tie.Need-cast-o Inv-loop μ-loop
-cast-o c = search needs
-
-shr-o : tie.Need-shr-o Inv-loop μ-loop
-shr-o c = search needs
-
-sub-n : tie.Need-sub-n Inv-loop μ-loop
-sub-n c = search needs
-
-cast-n : tie.Need-cast-n Inv-loop μ-loop
-cast-n c = search needs
-
-shr-n : tie.Need-shr-n Inv-loop μ-loop
-shr-n c = search needs
-
-sub-numbers : tie.Need-sub-numbers Inv-loop μ-loop
-sub-numbers c = search needs
-
-sub-numbers-2 : tie.Need-sub-numbers-2 Inv-loop μ-loop
-sub-numbers-2 c = search needs
-
-sub-numbers-3 : tie.Need-sub-numbers-3 Inv-loop μ-loop
-sub-numbers-3 c = search needs
-
-add-numbers : tie.Need-add-numbers Inv-loop μ-loop
-add-numbers c = search needs
-
-slice-write-numbers : tie.Need-slice-write-numbers Inv-loop μ-loop
-slice-write-numbers c = search needs
-
-add-k : tie.Need-add-k Inv-loop μ-loop
-add-k c = search needs
-
-loop-less : tie.Need-loop-less Inv-loop μ-loop
-loop-less c = search needs
-
 loop-again : tie.Need-loop-again Inv-loop μ-loop
 loop-again c =
     let l = c .before .loop in
@@ -81,19 +42,19 @@ eight-of-ones-spec =
     Inv-loop
     μ-loop
     loop-holds
-    sub-o
-    cast-o
-    shr-o
-    sub-n
-    cast-n
-    shr-n
-    sub-numbers
-    sub-numbers-2
-    sub-numbers-3
-    add-numbers
-    slice-write-numbers
-    add-k
-    loop-less
+    (λ c. search needs)
+    (λ c. search needs)
+    (λ c. search needs)
+    (λ c. search needs)
+    (λ c. search needs)
+    (λ c. search needs)
+    (λ c. search needs)
+    (λ c. search needs)
+    (λ c. search needs)
+    (λ c. search needs)
+    (λ c. search needs)
+    (λ c. search needs)
+    (λ c. search needs)
     loop-again
     same-length
     returns)

@@ -28,9 +28,6 @@ abbrev μ-loop : tie.MeasureT-loop
 loop-holds : tie.Need-loop-holds Inv-loop μ-loop
 loop-holds c = (refl, omega arith)
 
-number-some-requires : tie.Need-number-some-requires Inv-loop μ-loop
-number-some-requires c κs = search needs
-
 add-x : tie.Need-add-x Inv-loop μ-loop
 add-x c = record { fits = omega (arith, c .before .before .number-some .ensures .0 .most) }
 
@@ -63,7 +60,7 @@ number-row-spec =
     Inv-loop
     μ-loop
     loop-holds
-    number-some-requires
+    (λ c κs. search needs)
     add-x
     loop-less
     loop-again

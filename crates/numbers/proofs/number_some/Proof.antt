@@ -12,33 +12,6 @@ use Rattle.numbers.proofs.NumberLaws.{whole-fits, whole-numbers}
 use Rattle.numbers.proofs.number_some.Statement.{statement}
 use Rattle.numbers.proofs.number_some.Tie as tie
 
-whole-byte-requires : tie.Need-whole-byte-requires
-whole-byte-requires c κs = search needs
-
-cast-place : tie.Need-cast-place
-cast-place c = search needs
-
-mul-place : tie.Need-mul-place
-mul-place c = search needs
-
-add-place : tie.Need-add-place
-add-place c = search needs
-
-add-eight : tie.Need-add-eight
-add-eight c = search needs
-
-byte-at-requires : tie.Need-byte-at-requires
-byte-at-requires c κs = search needs
-
-byte-at-requires-2 : tie.Need-byte-at-requires-2
-byte-at-requires-2 c κs = search needs
-
-eight-requires : tie.Need-eight-requires
-eight-requires c κs = search needs
-
-same-length : tie.Need-same-length
-same-length c = search needs
-
 returns : tie.Need-returns
 returns c =
     let s = c .before .before .before .before .before .before .before .before .before .before .before .before .args in
@@ -48,21 +21,6 @@ returns c =
           ∙ (λ i. filled (numberOfBit (c .before .before .before .before .byte-at .ensures i) (c .before .before .before .byte-at2 .ensures i) (s .white)) (s .at + s .x) 8 (s .numbers .now))
           ∙ filled-below _ _ (s .at + s .x) 8 (s .numbers .now) (whole-numbers (s .columns) (s .row) (s .x) whole (s .white) (s .active .x0) (s .active .x1) (s .old .now) (s .new .now)),
     )
-
-shown-requires : tie.Need-shown-requires
-shown-requires c κs = search needs
-
-number-in-requires : tie.Need-number-in-requires
-number-in-requires c κs = search needs
-
-add-store : tie.Need-add-store
-add-store c = search needs
-
-store-requires : tie.Need-store-requires
-store-requires c κs = search needs
-
-same-length-2 : tie.Need-same-length-2
-same-length-2 c = search needs
 
 returns-2 : tie.Need-returns-2
 returns-2 c =
@@ -76,19 +34,19 @@ pub number-some-spec : {M : Type 1} → statement M
 number-some-spec =
     tie.close
     (tie.spec
-    whole-byte-requires
-    cast-place
-    mul-place
-    add-place
-    add-eight
-    byte-at-requires
-    byte-at-requires-2
-    eight-requires
-    same-length
+    (λ c κs. search needs)
+    (λ c. search needs)
+    (λ c. search needs)
+    (λ c. search needs)
+    (λ c. search needs)
+    (λ c κs. search needs)
+    (λ c κs. search needs)
+    (λ c κs. search needs)
+    (λ c. search needs)
     returns
-    shown-requires
-    number-in-requires
-    add-store
-    store-requires
-    same-length-2
+    (λ c κs. search needs)
+    (λ c κs. search needs)
+    (λ c. search needs)
+    (λ c κs. search needs)
+    (λ c. search needs)
     returns-2)

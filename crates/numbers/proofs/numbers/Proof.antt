@@ -24,35 +24,14 @@ Inv-loop numbers₀ old new p columns rows active area width height y₀ numbers
 abbrev μ-loop : tie.MeasureT-loop
 μ-loop numbers₀ old new p columns rows active area width height y₀ numbers y = height - y
 
-cast-width : tie.Need-cast-width Inv-loop μ-loop
-cast-width c = search needs
-
-cast-height : tie.Need-cast-height Inv-loop μ-loop
-cast-height c = search needs
-
 loop-holds : tie.Need-loop-holds Inv-loop μ-loop
 loop-holds c = (refl, omega arith)
-
-cast-shown : tie.Need-cast-shown Inv-loop μ-loop
-cast-shown c = search needs
-
-shown-requires : tie.Need-shown-requires Inv-loop μ-loop
-shown-requires c κs = search needs
-
-row-at-requires : tie.Need-row-at-requires Inv-loop μ-loop
-row-at-requires c κs = search needs
 
 mul-number-row : tie.Need-mul-number-row Inv-loop μ-loop
 mul-number-row c = record { fits = omega (arith, small (c .before .before .before .before .loop .y) (c .before .before .before .before .before .before .before .before .before .before .before .before .before .before .args .p .columns .count) (search needs) (search needs)) }
 
 number-row-requires : tie.Need-number-row-requires Inv-loop μ-loop
 number-row-requires c κs = small (c .before .before .before .before .loop .y) (c .before .before .before .before .before .before .before .before .before .before .before .before .before .before .args .p .columns .count) (search needs) (search needs)
-
-add-y : tie.Need-add-y Inv-loop μ-loop
-add-y c = search needs
-
-loop-less : tie.Need-loop-less Inv-loop μ-loop
-loop-less c = search needs
 
 loop-again : tie.Need-loop-again Inv-loop μ-loop
 loop-again c =
@@ -87,16 +66,16 @@ numbers-spec =
     (tie.spec
     Inv-loop
     μ-loop
-    cast-width
-    cast-height
+    (λ c. search needs)
+    (λ c. search needs)
     loop-holds
-    cast-shown
-    shown-requires
-    row-at-requires
+    (λ c. search needs)
+    (λ c κs. search needs)
+    (λ c κs. search needs)
     mul-number-row
     number-row-requires
-    add-y
-    loop-less
+    (λ c. search needs)
+    (λ c. search needs)
     loop-again
     same-length
     returns)

@@ -5,15 +5,9 @@ use borrow.Author.Needs.{needs}
 use Rattle.numbers.proofs.shown.Statement.{statement}
 use Rattle.numbers.proofs.shown.Tie as tie
 
-reversed-requires : tie.Need-reversed-requires
-reversed-requires c κs = search needs
-
 returns : tie.Need-returns
 unfolding shownAt
 returns c = simp (c .if1 .taken, c .before .reversed .ensures)
-
-add-sum : tie.Need-add-sum
-add-sum c = search needs
 
 returns-2 : tie.Need-returns-2
 unfolding shownAt
@@ -24,4 +18,4 @@ unfolding shownAt
 returns-3 c = let e = c .before .before .reversed .ensures in simp (c .before .if1 .left, le-leb _ _ (rw e at (c .if2 .left)), e)
 
 pub shown-spec : {M : Type 1} → statement M
-shown-spec = tie.close (tie.spec reversed-requires returns add-sum returns-2 returns-3)
+shown-spec = tie.close (tie.spec (λ c κs. search needs) returns (λ c. search needs) returns-2 returns-3)

@@ -15,18 +15,6 @@ Inv-loop numbers any₀ i₀ any i = (any || someUndriven (drop i numbers) ≡ s
 abbrev μ-loop : tie.MeasureT-loop
 μ-loop numbers any₀ i₀ any i = length numbers - i
 
-loop-holds : tie.Need-loop-holds Inv-loop μ-loop
-loop-holds c = search needs
-
-shared-slice-read-any : tie.Need-shared-slice-read-any Inv-loop μ-loop
-shared-slice-read-any c = search needs
-
-add-i : tie.Need-add-i Inv-loop μ-loop
-add-i c = search needs
-
-loop-less : tie.Need-loop-less Inv-loop μ-loop
-loop-less c = search needs
-
 loop-again : tie.Need-loop-again Inv-loop μ-loop
 loop-again c =
     let l = c .before .before .loop in
@@ -40,4 +28,4 @@ returns c =
 pub some-undriven-spec : {M : Type 1} → statement M
 some-undriven-spec =
     tie.close
-    (tie.spec Inv-loop μ-loop loop-holds shared-slice-read-any add-i loop-less loop-again returns)
+    (tie.spec Inv-loop μ-loop (λ c. search needs) (λ c. search needs) (λ c. search needs) (λ c. search needs) loop-again returns)

@@ -5,9 +5,6 @@ use borrow.Author.Needs.{needs}
 use Rattle.numbers.proofs.whites.Statement.{statement}
 use Rattle.numbers.proofs.whites.Tie as tie
 
-sub-result : tie.Need-sub-result
-sub-result c = search needs
-
 returns : tie.Need-returns
 returns c = λ k h. rw (c .if1 .taken) (zero-white (c .before .args .b) k (omega arith) h)
 
@@ -18,4 +15,4 @@ returns-3 : tie.Need-returns-3
 returns-3 c = λ k h. none-white (c .before .before .args .b) k (c .before .before .args .white) (c .before .if1 .left) (c .if2 .left) h
 
 pub whites-spec : {M : Type 1} → statement M
-whites-spec = tie.close (tie.spec sub-result returns returns-2 returns-3)
+whites-spec = tie.close (tie.spec (λ c. search needs) returns returns-2 returns-3)

@@ -8,9 +8,6 @@ returns : tie.Need-returns
 unfolding eightStraight
 returns c = simp (c .if1 .taken)
 
-byte-inside-requires : tie.Need-byte-inside-requires
-byte-inside-requires c κs = search needs
-
 returns-2 : tie.Need-returns-2
 unfolding eightStraight
 returns-2 c = simp (c .before .before .if1 .left, c .before .if2 .taken, c .byte-inside .ensures)
@@ -20,4 +17,4 @@ unfolding eightStraight
 returns-3 c = simp (c .before .if1 .left, c .if2 .left)
 
 pub whole-byte-spec : {M : Type 1} → statement M
-whole-byte-spec = tie.close (tie.spec returns byte-inside-requires returns-2 returns-3)
+whole-byte-spec = tie.close (tie.spec returns (λ c κs. search needs) returns-2 returns-3)

@@ -22,24 +22,6 @@ Inv-loop states swing all₀ i₀ all i = (pick all (every (isState swing) (drop
 abbrev μ-loop : tie.MeasureT-loop
 μ-loop states swing all₀ i₀ all i = length states - i
 
-loop-holds : tie.Need-loop-holds Inv-loop μ-loop
-loop-holds c = search needs
-
-mul-z : tie.Need-mul-z Inv-loop μ-loop
-mul-z c = search needs
-
-shared-slice-copy-out-z : tie.Need-shared-slice-copy-out-z Inv-loop μ-loop
-shared-slice-copy-out-z c = search needs
-
-is-state-requires : tie.Need-is-state-requires Inv-loop μ-loop
-is-state-requires c κs = search needs
-
-add-i : tie.Need-add-i Inv-loop μ-loop
-add-i c = search needs
-
-loop-less : tie.Need-loop-less Inv-loop μ-loop
-loop-less c = search needs
-
 loop-again : tie.Need-loop-again Inv-loop μ-loop
 loop-again c =
     let l = c .before .before .before .loop in
@@ -59,11 +41,11 @@ all-states-spec =
     (tie.spec
     Inv-loop
     μ-loop
-    loop-holds
-    mul-z
-    shared-slice-copy-out-z
-    is-state-requires
-    add-i
-    loop-less
+    (λ c. search needs)
+    (λ c. search needs)
+    (λ c. search needs)
+    (λ c κs. search needs)
+    (λ c. search needs)
+    (λ c. search needs)
     loop-again
     returns)

@@ -24,43 +24,16 @@ Inv-loop picture₀ states swing n from scale i₀ picture i = Changed (grey swi
 abbrev μ-loop : tie.MeasureT-loop
 μ-loop picture₀ states swing n from scale i₀ picture i = n - i
 
-shorter-requires : tie.Need-shorter-requires Inv-loop μ-loop
-shorter-requires c κs = search needs
-
-thresholds-requires : tie.Need-thresholds-requires Inv-loop μ-loop
-thresholds-requires c κs = search needs
-
-new-requires : tie.Need-new-requires Inv-loop μ-loop
-new-requires c κs = search needs
-
 loop-holds : tie.Need-loop-holds Inv-loop μ-loop
 loop-holds c =
     let a = c .before .before .before .before .args in
     changed-none (grey (a .swing)) (now (a .states)) (now (a .picture))
-
-mul-z : tie.Need-mul-z Inv-loop μ-loop
-mul-z c = search needs
-
-shared-slice-copy-out-z : tie.Need-shared-slice-copy-out-z Inv-loop μ-loop
-shared-slice-copy-out-z c = search needs
-
-above-requires : tie.Need-above-requires Inv-loop μ-loop
-above-requires c κs = search needs
-
-slice-aggregate-shade : tie.Need-slice-aggregate-shade Inv-loop μ-loop
-slice-aggregate-shade c = search needs
 
 shade-requires : tie.Need-shade-requires Inv-loop μ-loop
 shade-requires c κs = (c .before .before .before .before .before .new .ensures, c .before .before .before .before .before .before .thresholds .ensures)
 
 slice-write-picture : tie.Need-slice-write-picture Inv-loop μ-loop
 slice-write-picture c = omega (arith, c .before .before .before .before .before .loop .inv .long)
-
-add-i : tie.Need-add-i Inv-loop μ-loop
-add-i c = search needs
-
-loop-less : tie.Need-loop-less Inv-loop μ-loop
-loop-less c = search needs
 
 loop-again : tie.Need-loop-again Inv-loop μ-loop
 loop-again c =
@@ -87,18 +60,18 @@ draw-spec =
     (tie.spec
     Inv-loop
     μ-loop
-    shorter-requires
-    thresholds-requires
-    new-requires
+    (λ c κs. search needs)
+    (λ c κs. search needs)
+    (λ c κs. search needs)
     loop-holds
-    mul-z
-    shared-slice-copy-out-z
-    above-requires
-    slice-aggregate-shade
+    (λ c. search needs)
+    (λ c. search needs)
+    (λ c κs. search needs)
+    (λ c. search needs)
     shade-requires
     slice-write-picture
-    add-i
-    loop-less
+    (λ c. search needs)
+    (λ c. search needs)
     loop-again
     same-length
     returns)

@@ -51,40 +51,13 @@ stored ww kw wk kk ts n k z y r five fz fy fr slot moved chosen =
     ∙ ap (λ (v : ℤ). pick (ltb k 4) (movedReady (getD ts k unread) v) v) (toZ-ofZ fz)
     ∙ slot-moves ww kw wk kk ts n k five slot z (omega (arith, up-fits fz))
 
-shorter-requires : tie.Need-shorter-requires Inv-loop μ-loop
-shorter-requires c κs = search needs
-
-new-requires : tie.Need-new-requires Inv-loop μ-loop
-new-requires c κs = search needs
-
-new-requires-2 : tie.Need-new-requires-2 Inv-loop μ-loop
-new-requires-2 c κs = search needs
-
-new-requires-3 : tie.Need-new-requires-3 Inv-loop μ-loop
-new-requires-3 c κs = search needs
-
-new-requires-4 : tie.Need-new-requires-4 Inv-loop μ-loop
-new-requires-4 c κs = search needs
-
-new-requires-5 : tie.Need-new-requires-5 Inv-loop μ-loop
-new-requires-5 c κs = search needs
-
 loop-holds : tie.Need-loop-holds Inv-loop μ-loop
 loop-holds c =
     let a = c .before .before .before .before .before .before .before .args in
     record { moved = λ ww kw wk kk e. changed-none (movedBy ww kw wk kk) (now (a .numbers)) (now (a .states)); long = refl }
 
-mul-z : tie.Need-mul-z Inv-loop μ-loop
-mul-z c = search needs
-
 slice-copy-out-z : tie.Need-slice-copy-out-z Inv-loop μ-loop
 slice-copy-out-z c = omega (arith, c .before .loop .inv .long)
-
-shared-slice-read-slot : tie.Need-shared-slice-read-slot Inv-loop μ-loop
-shared-slice-read-slot c = search needs
-
-slot-requires : tie.Need-slot-requires Inv-loop μ-loop
-slot-requires c κs = search needs
 
 mul-t : tie.Need-mul-t Inv-loop μ-loop
 mul-t c = record { fits = omega (arith, c .slot .ensures, slot-five (getD (now (c .before .before .before .before .before .before .before .before .before .before .before .before .args .numbers)) (c .before .before .before .before .loop .i) 0)) }
@@ -98,20 +71,8 @@ apply-requires c κs =
     slot-bounded (a .ww) (a .kw) (a .wk) (a .kk) _ (getD (now (a .numbers)) (c .before .before .before .before .before .loop .i) 0) (c .before .slot .result)
     (made (c .before .before .before .before .before .before)) (c .before .slot .ensures)
 
-if-driven-requires : tie.Need-if-driven-requires Inv-loop μ-loop
-if-driven-requires c κs = search needs
-
-mul-y : tie.Need-mul-y Inv-loop μ-loop
-mul-y c = search needs
-
 slice-set-from-y : tie.Need-slice-set-from-y Inv-loop μ-loop
 slice-set-from-y c = omega (arith, c .before .before .before .before .before .before .before .loop .inv .long)
-
-add-i : tie.Need-add-i Inv-loop μ-loop
-add-i c = search needs
-
-loop-less : tie.Need-loop-less Inv-loop μ-loop
-loop-less c = search needs
 
 loop-again : tie.Need-loop-again Inv-loop μ-loop
 loop-again c =
@@ -145,25 +106,25 @@ drive-spec =
     (tie.spec
     Inv-loop
     μ-loop
-    shorter-requires
-    new-requires
-    new-requires-2
-    new-requires-3
-    new-requires-4
-    new-requires-5
+    (λ c κs. search needs)
+    (λ c κs. search needs)
+    (λ c κs. search needs)
+    (λ c κs. search needs)
+    (λ c κs. search needs)
+    (λ c κs. search needs)
     loop-holds
-    mul-z
+    (λ c. search needs)
     slice-copy-out-z
-    shared-slice-read-slot
-    slot-requires
+    (λ c. search needs)
+    (λ c κs. search needs)
     mul-t
     array-copy-out-t
     apply-requires
-    if-driven-requires
-    mul-y
+    (λ c κs. search needs)
+    (λ c. search needs)
     slice-set-from-y
-    add-i
-    loop-less
+    (λ c. search needs)
+    (λ c. search needs)
     loop-again
     same-length
     returns)

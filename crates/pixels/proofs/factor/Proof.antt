@@ -6,14 +6,8 @@ use Rattle.pixels.specs.InnerGuess.{white}
 use Rattle.pixels.proofs.factor.Statement.{statement}
 use Rattle.pixels.proofs.factor.Tie as tie
 
-div-result : tie.Need-div-result
-div-result c = search needs
-
-returns : tie.Need-returns
-returns c = search needs
-
 returns-2 : tie.Need-returns-2
 returns-2 c = omega (arith, div-add-mod white (c .before .args .most))
 
 pub factor-spec : {M : Type 1} → statement M
-factor-spec = tie.close (tie.spec div-result returns returns-2)
+factor-spec = tie.close (tie.spec (λ c. search needs) (λ c. search needs) returns-2)

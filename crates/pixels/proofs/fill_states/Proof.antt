@@ -19,20 +19,8 @@ Inv-loop states₀ state z i₀ states i = Filled (toZ w64 z) states₀ states i
 abbrev μ-loop : tie.MeasureT-loop
 μ-loop states₀ state z i₀ states i = length states₀ - i
 
-held-requires : tie.Need-held-requires Inv-loop μ-loop
-held-requires c κs = search needs
-
 loop-holds : tie.Need-loop-holds Inv-loop μ-loop
 loop-holds c = filled-none (toZ w64 (ofZ w64 (c .held .result))) (now (c .before .args .states))
-
-mul-z : tie.Need-mul-z Inv-loop μ-loop
-mul-z c = search needs
-
-slice-set-from-z : tie.Need-slice-set-from-z Inv-loop μ-loop
-slice-set-from-z c = search needs
-
-add-i : tie.Need-add-i Inv-loop μ-loop
-add-i c = search needs
 
 loop-less : tie.Need-loop-less Inv-loop μ-loop
 loop-less c = omega (arith, c .before .loop .inv .long)
@@ -55,11 +43,11 @@ fill-states-spec =
     (tie.spec
     Inv-loop
     μ-loop
-    held-requires
+    (λ c κs. search needs)
     loop-holds
-    mul-z
-    slice-set-from-z
-    add-i
+    (λ c. search needs)
+    (λ c. search needs)
+    (λ c. search needs)
     loop-less
     loop-again
     same-length

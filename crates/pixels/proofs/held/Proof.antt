@@ -8,14 +8,8 @@ use mir.Facts.{toZ-ofZ}
 use Rattle.pixels.proofs.held.Statement.{statement}
 use Rattle.pixels.proofs.held.Tie as tie
 
-least-requires : tie.Need-least-requires
-least-requires c κs = search needs
-
-cast-result : tie.Need-cast-result
-cast-result c = search needs
-
 returns : tie.Need-returns
 returns c = toZ-ofZ {w = w64} {z = pos (c .least .result)} (record { sfits = omega (arith, c .least .ensures) }) ∙ ap pos (c .least .ensures)
 
 pub held-spec : {M : Type 1} → statement M
-held-spec = tie.close (tie.spec least-requires cast-result returns)
+held-spec = tie.close (tie.spec (λ c κs. search needs) (λ c. search needs) returns)

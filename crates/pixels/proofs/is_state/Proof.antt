@@ -21,9 +21,6 @@ by-swing : (s : ℕ) (z : ℤ) → dn z ≡ 0 → isState s z ≡ leb (up z) s
 by-swing s (pos n) h = refl
 by-swing s (negsuc n) h = absurd (omega arith)
 
-above-requires : tie.Need-above-requires
-above-requires c κs = search needs
-
 returns : tie.Need-returns
 returns c =
     let s = c .before in
@@ -36,4 +33,4 @@ returns-2 c =
     ∙ sym (by-swing (s .args .swing) (s .args .z) (not-below-zero (s .fits .z) (c .before .if1 .left)))
 
 pub is-state-spec : {M : Type 1} → statement M
-is-state-spec = tie.close (tie.spec above-requires returns returns-2)
+is-state-spec = tie.close (tie.spec (λ c κs. search needs) returns returns-2)

@@ -7,12 +7,6 @@ use Rattle.pixels.proofs.GuessLaws.{confirmed, product, guess}
 use Rattle.pixels.proofs.shade.Statement.{statement}
 use Rattle.pixels.proofs.shade.Tie as tie
 
-cast-a : tie.Need-cast-a
-cast-a c = search needs
-
-shr-a : tie.Need-shr-a
-shr-a c = search needs
-
 mul-q : tie.Need-mul-q
 mul-q c =
     let s = c .before .before .before .before .before in
@@ -65,18 +59,12 @@ returns c =
     let few = guess (s .args .scale) _ (s .pre .0) (c .before .before .before .before .before .if1 .taken) in
     sym (confirmed (s .args .swing) (s .args .x) _ (now (s .args .from)) (s .pre .1) few (c .before .before .if2 .taken) (c .if3 .taken))
 
-gray-requires : tie.Need-gray-requires
-gray-requires c κs = search needs
-
-returns-2 : tie.Need-returns-2
-returns-2 c = search needs
-
 pub shade-spec : {M : Type 1} → statement M
 shade-spec =
     tie.close
     (tie.spec
-    cast-a
-    shr-a
+    (λ c. search needs)
+    (λ c. search needs)
     mul-q
     add-q
     mul-if2
@@ -86,5 +74,5 @@ shade-spec =
     shared-slice-read-if3
     cast-result
     returns
-    gray-requires
-    returns-2)
+    (λ c κs. search needs)
+    (λ c. search needs))

@@ -10,9 +10,6 @@ use Rattle.pixels.proofs.slot.Tie as tie
 returns : tie.Need-returns
 returns c = sym (number-none 0 1 2 3 4 (c .before .args .number) (λ e. omega arith) (λ e. omega arith) (λ e. omega arith) (λ e. omega arith))
 
-sub-result : tie.Need-sub-result
-sub-result c = search needs
-
 returns-2 : tie.Need-returns-2
 returns-2 c = sym (slot-table (c .before .before .args .number) (omega arith) (omega arith))
 
@@ -20,4 +17,4 @@ returns-3 : tie.Need-returns-3
 returns-3 c = sym (number-none 0 1 2 3 4 (c .before .before .args .number) (λ e. omega arith) (λ e. omega arith) (λ e. omega arith) (λ e. omega arith))
 
 pub slot-spec : {M : Type 1} → statement M
-slot-spec = tie.close (tie.spec returns sub-result returns-2 returns-3)
+slot-spec = tie.close (tie.spec returns (λ c. search needs) returns-2 returns-3)

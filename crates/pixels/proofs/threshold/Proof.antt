@@ -15,23 +15,11 @@ small c = mul-le-mul {n₂ = 511} {m₂ = 509} (omega (arith, c .before .saturat
 held-once : (a b : ℕ) → min (min a top + b) top ≡ min (a + b) top
 held-once a b = omega arith
 
-mul-saturating-sub : tie.Need-mul-saturating-sub
-mul-saturating-sub c = search needs
-
-saturating-sub-requires : tie.Need-saturating-sub-requires
-saturating-sub-requires c κs = search needs
-
-saturating-mul-requires : tie.Need-saturating-mul-requires
-saturating-mul-requires c κs = search needs
-
 mul-saturating-add : tie.Need-mul-saturating-add
 mul-saturating-add c = record { fits = omega (arith, small c) }
 
 add-saturating-add : tie.Need-add-saturating-add
 add-saturating-add c = record { fits = omega (arith, small c) }
-
-saturating-add-requires : tie.Need-saturating-add-requires
-saturating-add-requires c κs = search needs
 
 returns : tie.Need-returns
 returns c =
@@ -49,10 +37,10 @@ pub threshold-spec : {M : Type 1} → statement M
 threshold-spec =
     tie.close
     (tie.spec
-    mul-saturating-sub
-    saturating-sub-requires
-    saturating-mul-requires
+    (λ c. search needs)
+    (λ c κs. search needs)
+    (λ c κs. search needs)
     mul-saturating-add
     add-saturating-add
-    saturating-add-requires
+    (λ c κs. search needs)
     returns)

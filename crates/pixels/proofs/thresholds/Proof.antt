@@ -18,21 +18,6 @@ abbrev μ-loop : tie.MeasureT-loop
 loop-holds : tie.Need-loop-holds Inv-loop μ-loop
 loop-holds c = (record { long = length-replicate {A = ℕ} 257 0; each = λ k h. absurd (omega arith) }, omega arith)
 
-threshold-requires : tie.Need-threshold-requires Inv-loop μ-loop
-threshold-requires c κs = search needs
-
-mul-from : tie.Need-mul-from Inv-loop μ-loop
-mul-from c = search needs
-
-array-write-from : tie.Need-array-write-from Inv-loop μ-loop
-array-write-from c = search needs
-
-add-q : tie.Need-add-q Inv-loop μ-loop
-add-q c = search needs
-
-loop-less : tie.Need-loop-less Inv-loop μ-loop
-loop-less c = search needs
-
 loop-again : tie.Need-loop-again Inv-loop μ-loop
 loop-again c =
     let l = c .before .before .loop in
@@ -50,10 +35,10 @@ thresholds-spec =
     Inv-loop
     μ-loop
     loop-holds
-    threshold-requires
-    mul-from
-    array-write-from
-    add-q
-    loop-less
+    (λ c κs. search needs)
+    (λ c. search needs)
+    (λ c. search needs)
+    (λ c. search needs)
+    (λ c. search needs)
     loop-again
     returns)

@@ -8,19 +8,13 @@ use borrow.Author.Needs.{needs}
 use Rattle.questions.proofs.busy_pin.Statement.{statement}
 use Rattle.questions.proofs.busy_pin.Tie as tie
 
-foreign-requires : tie.Need-foreign-requires
-foreign-requires c κs = search needs
-
 returns : tie.Need-returns
 unfolding lentRefused questionRefused busyAnswer
 returns c = λ b. (yes _ (sym (c .before .foreign .ensures) ∙ c .if1 .taken) refl, ap ask.low (yes _ (sym (c .before .foreign .ensures) ∙ c .if1 .taken) refl))
-
-busy-at-requires : tie.Need-busy-at-requires
-busy-at-requires c κs = search needs
 
 returns-2 : tie.Need-returns-2
 unfolding lentRefused questionRefused busyAnswer
 returns-2 c = λ b. (no _ (sym (c .before .before .before .before .foreign .ensures) ∙ c .before .before .before .if1 .left) refl, ap ask.low (no _ (sym (c .before .before .before .before .foreign .ensures) ∙ c .before .before .before .if1 .left) (c .busy-at .ensures)))
 
 pub busy-pin-spec : {M : Type 1} → statement M
-busy-pin-spec = tie.close (tie.spec foreign-requires returns busy-at-requires returns-2)
+busy-pin-spec = tie.close (tie.spec (λ c κs. search needs) returns (λ c κs. search needs) returns-2)

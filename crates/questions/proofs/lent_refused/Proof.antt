@@ -6,9 +6,6 @@ use borrow.Author.Needs.{needs}
 use Rattle.questions.proofs.lent_refused.Statement.{statement}
 use Rattle.questions.proofs.lent_refused.Tie as tie
 
-foreign-requires : tie.Need-foreign-requires
-foreign-requires c κs = search needs
-
 returns : tie.Need-returns
 unfolding lentRefused
 returns c = yes _ (sym (c .before .foreign .ensures) ∙ c .if1 .taken) refl
@@ -22,4 +19,4 @@ unfolding lentRefused
 returns-3 c = no _ (sym (c .before .before .foreign .ensures) ∙ c .before .if1 .left) (no _ (c .if2 .left) refl)
 
 pub lent-refused-spec : {M : Type 1} → statement M
-lent-refused-spec = tie.close (tie.spec foreign-requires returns returns-2 returns-3)
+lent-refused-spec = tie.close (tie.spec (λ c κs. search needs) returns returns-2 returns-3)

@@ -8,15 +8,6 @@ use borrow.Author.Needs.{needs}
 use Rattle.questions.proofs.ram_bit.Statement.{statement}
 use Rattle.questions.proofs.ram_bit.Tie as tie
 
-lent-refused-requires : tie.Need-lent-refused-requires
-lent-refused-requires c κs = search needs
-
-none-requires : tie.Need-none-requires
-none-requires c κs = search needs
-
-ram-bit-requires : tie.Need-ram-bit-requires
-ram-bit-requires c κs = search needs
-
 returns : tie.Need-returns
 unfolding bitRefused bitAnswer
 returns c = (λ b. (c .before .before .before .lent-refused .ensures, ap ask.bit (yes _ (told (c .before .before .none .ensures) (c .before .before .before .lent-refused .ensures) (c .before .if1 .taken)) (c .ram-bit .ensures))), λ b. (c .before .before .before .lent-refused .ensures, ap ask.bit (yes _ (told (c .before .before .none .ensures) (c .before .before .before .lent-refused .ensures) (c .before .if1 .taken)) (c .ram-bit .ensures))))
@@ -27,4 +18,4 @@ returns-2 c = (λ b. (c .before .before .lent-refused .ensures, ap ask.bit (no _
 
 pub ram-bit-spec : {M : Type 1} → statement M
 ram-bit-spec =
-    tie.close (tie.spec lent-refused-requires none-requires ram-bit-requires returns returns-2)
+    tie.close (tie.spec (λ c κs. search needs) (λ c κs. search needs) (λ c κs. search needs) returns returns-2)

@@ -14,27 +14,9 @@ use borrow.Author.Needs.{needs}
 use Rattle.questions.proofs.row.Statement.{statement}
 use Rattle.questions.proofs.row.Tie as tie
 
-row-refused-requires : tie.Need-row-refused-requires
-row-refused-requires c κs = search needs
-
-none-requires : tie.Need-none-requires
-none-requires c κs = search needs
-
-sub-result : tie.Need-sub-result
-sub-result c = search needs
-
-part-result-start : tie.Need-part-result-start
-part-result-start c = search needs
-
-part-result-end : tie.Need-part-result-end
-part-result-end c = search needs
-
 returns : tie.Need-returns
 unfolding rowAnswer
 returns c = λ b. ap ask.part (yes _ (told (c .before .before .before .before .none .ensures) (c .before .before .before .before .before .row-refused .ensures 0 b) (c .before .before .before .if1 .taken)) (no _ (le-ltb _ _ (c .before .if2 .taken)) refl))
-
-cast-width : tie.Need-cast-width
-cast-width c = search needs
 
 mul-at : tie.Need-mul-at
 mul-at c = record { fits = omega (arith, small (c .before .before .before .before .before .before .before .args .y) (c .before .before .before .before .before .before .before .args .p .config .panel .sources) (search needs) (search needs)) }
@@ -42,27 +24,12 @@ mul-at c = record { fits = omega (arith, small (c .before .before .before .befor
 add-result : tie.Need-add-result
 add-result c = record { fits = omega (arith, small (c .before .before .before .before .before .before .before .args .y) (c .before .before .before .before .before .before .before .args .p .config .panel .sources) (search needs) (search needs)) }
 
-sub-result-2 : tie.Need-sub-result-2
-sub-result-2 c = search needs
-
-part-result-start-2 : tie.Need-part-result-start-2
-part-result-start-2 c = search needs
-
 part-result-end-2 : tie.Need-part-result-end-2
 part-result-end-2 c = let b : Buffers = buffers [] [] [] [] [] [] in omega (arith, row-fits (c .before .before .before .before .before .before .before .args .p .config .panel .sources) (c .before .before .before .before .before .before .before .args .p .config .panel .gates) (c .before .before .before .before .before .before .before .args .y) (c .before .if2 .left), row-length (c .before .before .before .before .before .before .before .args .p) _ (eqb-true _ 0 (told (c .before .before .before .before .none .ensures) (c .before .before .before .before .before .row-refused .ensures 0 b) (c .before .before .before .if1 .taken))))
 
 returns-2 : tie.Need-returns-2
 unfolding rowAnswer
 returns-2 c = λ b. ap ask.part (yes _ (told (c .before .before .before .before .before .none .ensures) (c .before .before .before .before .before .before .row-refused .ensures 0 b) (c .before .before .before .before .if1 .taken)) (yes _ (lt-ltb _ _ (c .before .before .if2 .left)) (simp add-sub-cancel-left)))
-
-sub-result-3 : tie.Need-sub-result-3
-sub-result-3 c = search needs
-
-part-result-start-3 : tie.Need-part-result-start-3
-part-result-start-3 c = search needs
-
-part-result-end-3 : tie.Need-part-result-end-3
-part-result-end-3 c = search needs
 
 returns-3 : tie.Need-returns-3
 unfolding rowAnswer
@@ -72,20 +39,20 @@ pub row-spec : {M : Type 1} → statement M
 row-spec =
     tie.close
     (tie.spec
-    row-refused-requires
-    none-requires
-    sub-result
-    part-result-start
-    part-result-end
+    (λ c κs. search needs)
+    (λ c κs. search needs)
+    (λ c. search needs)
+    (λ c. search needs)
+    (λ c. search needs)
     returns
-    cast-width
+    (λ c. search needs)
     mul-at
     add-result
-    sub-result-2
-    part-result-start-2
+    (λ c. search needs)
+    (λ c. search needs)
     part-result-end-2
     returns-2
-    sub-result-3
-    part-result-start-3
-    part-result-end-3
+    (λ c. search needs)
+    (λ c. search needs)
+    (λ c. search needs)
     returns-3)

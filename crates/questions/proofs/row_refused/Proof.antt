@@ -6,17 +6,8 @@ use borrow.Author.Needs.{needs}
 use Rattle.questions.proofs.row_refused.Statement.{statement}
 use Rattle.questions.proofs.row_refused.Tie as tie
 
-cast-pixels : tie.Need-cast-pixels
-cast-pixels c = search needs
-
-cast-pixels-2 : tie.Need-cast-pixels-2
-cast-pixels-2 c = search needs
-
 mul-pixels : tie.Need-mul-pixels
 mul-pixels c = record { fits = omega (arith, small (c .before .before .before .args .p .config .panel .sources) (c .before .before .before .args .p .config .panel .gates) (search needs) (search needs)) }
-
-lent-refused-requires : tie.Need-lent-refused-requires
-lent-refused-requires c κs = search needs
 
 returns : tie.Need-returns
 unfolding rowRefused
@@ -24,4 +15,4 @@ returns c = λ y b. c .lent-refused .ensures
 
 pub row-refused-spec : {M : Type 1} → statement M
 row-refused-spec =
-    tie.close (tie.spec cast-pixels cast-pixels-2 mul-pixels lent-refused-requires returns)
+    tie.close (tie.spec (λ c. search needs) (λ c. search needs) mul-pixels (λ c κs. search needs) returns)

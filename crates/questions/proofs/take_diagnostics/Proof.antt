@@ -8,15 +8,6 @@ use borrow.Author.Needs.{needs}
 use Rattle.questions.proofs.take_diagnostics.Statement.{statement}
 use Rattle.questions.proofs.take_diagnostics.Tie as tie
 
-lent-refused-requires : tie.Need-lent-refused-requires
-lent-refused-requires c κs = search needs
-
-none-requires : tie.Need-none-requires
-none-requires c κs = search needs
-
-taken-requires : tie.Need-taken-requires
-taken-requires c κs = search needs
-
 returns : tie.Need-returns
 unfolding takeCall takingRefused takenRows
 returns c = (λ b. yes _ (told (c .before .before .before .none .ensures) (c .before .before .before .before .lent-refused .ensures) (c .before .before .if1 .taken)) (simp (c .taken .ensures)), λ b. (c .before .before .before .before .lent-refused .ensures, ap ask.count (yes _ (told (c .before .before .before .none .ensures) (c .before .before .before .before .lent-refused .ensures) (c .before .before .if1 .taken)) refl)))
@@ -27,4 +18,4 @@ returns-2 c = (λ b. no _ (told (c .before .none .ensures) (c .before .before .l
 
 pub take-diagnostics-spec : {M : Type 1} → statement M
 take-diagnostics-spec =
-    tie.close (tie.spec lent-refused-requires none-requires taken-requires returns returns-2)
+    tie.close (tie.spec (λ c κs. search needs) (λ c κs. search needs) (λ c κs. search needs) returns returns-2)

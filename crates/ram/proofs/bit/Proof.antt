@@ -4,18 +4,9 @@ use Rattle.ram.specs.Plane.{bitAt}
 use Rattle.ram.proofs.bit.Statement.{statement}
 use Rattle.ram.proofs.bit.Tie as tie
 
-place-requires : tie.Need-place-requires
-place-requires c κs = search needs
-
-byte-at-requires : tie.Need-byte-at-requires
-byte-at-requires c κs = search needs
-
-bit-of-requires : tie.Need-bit-of-requires
-bit-of-requires c κs = search needs
-
 returns : tie.Need-returns
 unfolding bitAt
 returns c = simp (c .bit-of .ensures, c .before .byte-at .ensures, c .before .before .place .ensures)
 
 pub bit-spec : {M : Type 1} → statement M
-bit-spec = tie.close (tie.spec place-requires byte-at-requires bit-of-requires returns)
+bit-spec = tie.close (tie.spec (λ c κs. search needs) (λ c κs. search needs) (λ c κs. search needs) returns)

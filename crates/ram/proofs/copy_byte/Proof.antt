@@ -6,24 +6,6 @@ use Rattle.ram.proofs.BytewiseLaws.{bits-copied}
 use Rattle.ram.proofs.copy_byte.Statement.{statement}
 use Rattle.ram.proofs.copy_byte.Tie as tie
 
-place-requires : tie.Need-place-requires
-place-requires c κs = search needs
-
-byte-at-requires : tie.Need-byte-at-requires
-byte-at-requires c κs = search needs
-
-byte-at-requires-2 : tie.Need-byte-at-requires-2
-byte-at-requires-2 c κs = search needs
-
-merged-requires : tie.Need-merged-requires
-merged-requires c κs = search needs
-
-store-requires : tie.Need-store-requires
-store-requires c κs = search needs
-
-same-length : tie.Need-same-length
-same-length c = search needs
-
 returns : tie.Need-returns
 returns c =
     let s = c .before .before in
@@ -39,10 +21,10 @@ pub copy-byte-spec : {M : Type 1} → statement M
 copy-byte-spec =
     tie.close
     (tie.spec
-    place-requires
-    byte-at-requires
-    byte-at-requires-2
-    merged-requires
-    store-requires
-    same-length
+    (λ c κs. search needs)
+    (λ c κs. search needs)
+    (λ c κs. search needs)
+    (λ c κs. search needs)
+    (λ c κs. search needs)
+    (λ c. search needs)
     returns)

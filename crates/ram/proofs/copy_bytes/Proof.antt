@@ -18,24 +18,6 @@ abbrev μ-loop : tie.MeasureT-loop
 loop-holds : tie.Need-loop-holds Inv-loop μ-loop
 loop-holds c = (refl, omega arith, refl)
 
-add-old : tie.Need-add-old Inv-loop μ-loop
-add-old c = search needs
-
-shared-slice-read-old : tie.Need-shared-slice-read-old Inv-loop μ-loop
-shared-slice-read-old c = search needs
-
-add-old-2 : tie.Need-add-old-2 Inv-loop μ-loop
-add-old-2 c = search needs
-
-slice-write-old : tie.Need-slice-write-old Inv-loop μ-loop
-slice-write-old c = search needs
-
-add-i : tie.Need-add-i Inv-loop μ-loop
-add-i c = search needs
-
-loop-less : tie.Need-loop-less Inv-loop μ-loop
-loop-less c = search needs
-
 loop-again : tie.Need-loop-again Inv-loop μ-loop
 loop-again c =
     let l = c .before .before .loop in
@@ -58,12 +40,12 @@ copy-bytes-spec =
     Inv-loop
     μ-loop
     loop-holds
-    add-old
-    shared-slice-read-old
-    add-old-2
-    slice-write-old
-    add-i
-    loop-less
+    (λ c. search needs)
+    (λ c. search needs)
+    (λ c. search needs)
+    (λ c. search needs)
+    (λ c. search needs)
+    (λ c. search needs)
     loop-again
     same-length
     returns)

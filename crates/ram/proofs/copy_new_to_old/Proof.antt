@@ -16,9 +16,6 @@ Inv-loop old₀ new area rows j₀ old j = (old ≡ turns j (λ i p. copiedRow p
 abbrev μ-loop : tie.MeasureT-loop
 μ-loop old₀ new area rows j₀ old j = rows - j
 
-count-requires : tie.Need-count-requires Inv-loop μ-loop
-count-requires c κs = search needs
-
 loop-holds : tie.Need-loop-holds Inv-loop μ-loop
 loop-holds c = (refl, omega arith, refl)
 
@@ -61,7 +58,7 @@ copy-new-to-old-spec =
     (tie.spec
     Inv-loop
     μ-loop
-    count-requires
+    (λ c κs. search needs)
     loop-holds
     cast-copy-row
     add-copy-row

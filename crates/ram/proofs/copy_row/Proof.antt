@@ -15,29 +15,8 @@ Inv-loop old₀ new area y columns done₀ old done = (old ≡ copiedBits old₀
 abbrev μ-loop : tie.MeasureT-loop
 μ-loop old₀ new area y columns done₀ old done = columns - done
 
-count-requires : tie.Need-count-requires Inv-loop μ-loop
-count-requires c κs = search needs
-
 loop-holds : tie.Need-loop-holds Inv-loop μ-loop
 loop-holds c = (refl, omega arith, refl)
-
-cast-copy-some : tie.Need-cast-copy-some Inv-loop μ-loop
-cast-copy-some c = search needs
-
-add-copy-some : tie.Need-add-copy-some Inv-loop μ-loop
-add-copy-some c = search needs
-
-sub-copy-some : tie.Need-sub-copy-some Inv-loop μ-loop
-sub-copy-some c = search needs
-
-copy-some-requires : tie.Need-copy-some-requires Inv-loop μ-loop
-copy-some-requires c κs = search needs
-
-add-done : tie.Need-add-done Inv-loop μ-loop
-add-done c = search needs
-
-loop-less : tie.Need-loop-less Inv-loop μ-loop
-loop-less c = search needs
 
 loop-again : tie.Need-loop-again Inv-loop μ-loop
 loop-again c =
@@ -62,14 +41,14 @@ copy-row-spec =
     (tie.spec
     Inv-loop
     μ-loop
-    count-requires
+    (λ c κs. search needs)
     loop-holds
-    cast-copy-some
-    add-copy-some
-    sub-copy-some
-    copy-some-requires
-    add-done
-    loop-less
+    (λ c. search needs)
+    (λ c. search needs)
+    (λ c. search needs)
+    (λ c κs. search needs)
+    (λ c. search needs)
+    (λ c. search needs)
     loop-again
     same-length
     returns)

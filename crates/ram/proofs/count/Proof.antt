@@ -7,9 +7,6 @@ use Rattle.ram.proofs.count.Tie as tie
 returns : tie.Need-returns
 returns c = omega arith
 
-cast-result : tie.Need-cast-result
-cast-result c = search needs
-
 add-result : tie.Need-add-result
 add-result c = omega arith
 
@@ -17,4 +14,4 @@ returns-2 : tie.Need-returns-2
 returns-2 c = omega arith
 
 pub count-spec : {M : Type 1} → statement M
-count-spec = tie.close (tie.spec returns cast-result add-result returns-2)
+count-spec = tie.close (tie.spec returns (λ c. search needs) add-result returns-2)

@@ -7,12 +7,6 @@ use Rattle.ram.specs.Write.{nextOf}
 use Rattle.ram.proofs.next.Statement.{statement}
 use Rattle.ram.proofs.next.Tie as tie
 
-saturating-add-requires : tie.Need-saturating-add-requires
-saturating-add-requires c κs = search needs
-
-saturating-add-requires-2 : tie.Need-saturating-add-requires-2
-saturating-add-requires-2 c κs = search needs
-
 returns : tie.Need-returns
 unfolding nextOf
 returns c =
@@ -30,4 +24,4 @@ returns-2 c =
 
 pub next-spec : {M : Type 1} → statement M
 next-spec =
-    tie.close (tie.spec saturating-add-requires saturating-add-requires-2 returns returns-2)
+    tie.close (tie.spec (λ c κs. search needs) (λ c κs. search needs) returns returns-2)

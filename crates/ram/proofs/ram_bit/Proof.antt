@@ -13,12 +13,9 @@ returns-2 : tie.Need-returns-2
 unfolding ramBit
 returns-2 c = simp (lt-ltb _ _ (c .before .if1 .left), le-ltb _ _ (c .if2 .taken))
 
-bit-requires : tie.Need-bit-requires
-bit-requires c κs = search needs
-
 returns-3 : tie.Need-returns-3
 unfolding ramBit
 returns-3 c = simp (lt-ltb _ _ (c .before .before .if1 .left), lt-ltb _ _ (c .before .if2 .left), c .bit .ensures)
 
 pub ram-bit-spec : {M : Type 1} → statement M
-ram-bit-spec = tie.close (tie.spec returns returns-2 bit-requires returns-3)
+ram-bit-spec = tie.close (tie.spec returns returns-2 (λ c κs. search needs) returns-3)

@@ -5,17 +5,8 @@ use borrow.Author.Needs.{needs}
 use Rattle.ram.proofs.store.Statement.{statement}
 use Rattle.ram.proofs.store.Tie as tie
 
-slice-write-plane : tie.Need-slice-write-plane
-slice-write-plane c = search needs
-
-same-length : tie.Need-same-length
-same-length c = search needs
-
-returns : tie.Need-returns
-returns c = search needs
-
 returns-2 : tie.Need-returns-2
 returns-2 c = sym (set-out (c .before .args .plane .now) (c .before .args .at) (c .before .args .byte) (c .if1 .left))
 
 pub store-spec : {M : Type 1} → statement M
-store-spec = tie.close (tie.spec slice-write-plane same-length returns returns-2)
+store-spec = tie.close (tie.spec (λ c. search needs) (λ c. search needs) (λ c. search needs) returns-2)

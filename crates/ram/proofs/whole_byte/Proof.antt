@@ -12,18 +12,9 @@ returns : tie.Need-returns
 unfolding wholeByte
 returns c = simp (ne-eqb _ _ (c .if1 .taken))
 
-contains-requires : tie.Need-contains-requires
-contains-requires c κs = search needs
-
 returns-2 : tie.Need-returns-2
 unfolding wholeByte
 returns-2 c = simp (eq-eqb _ _ (c .before .before .if1 .left), sym (c .before .contains .ensures) ∙ not-true _ (c .if2 .taken))
-
-add-contains : tie.Need-add-contains
-add-contains c = search needs
-
-contains-requires-2 : tie.Need-contains-requires-2
-contains-requires-2 c κs = search needs
 
 returns-3 : tie.Need-returns-3
 unfolding wholeByte
@@ -36,4 +27,4 @@ returns-3 c =
 pub whole-byte-spec : {M : Type 1} → statement M
 whole-byte-spec =
     tie.close
-    (tie.spec returns contains-requires returns-2 add-contains contains-requires-2 returns-3)
+    (tie.spec returns (λ c κs. search needs) returns-2 (λ c. search needs) (λ c κs. search needs) returns-3)

@@ -9,39 +9,15 @@ use borrow.Author.Needs.{needs}
 use Rattle.ram.proofs.write_bit.Statement.{statement}
 use Rattle.ram.proofs.write_bit.Tie as tie
 
-cast-if1 : tie.Need-cast-if1
-cast-if1 c = search needs
-
 returns : tie.Need-returns
 unfolding putInside
 returns c =
     let a = c .before .before .args in
     rw (inside-past (a .area) (a .x) (a .y) (omega arith))
 
-cast-contains : tie.Need-cast-contains
-cast-contains c = search needs
-
-contains-requires : tie.Need-contains-requires
-contains-requires c κs = search needs
-
 returns-2 : tie.Need-returns-2
 unfolding putInside
 returns-2 c = rw (sym (c .before .contains .ensures) ∙ not-true _ (c .if2 .taken))
-
-place-requires : tie.Need-place-requires
-place-requires c κs = search needs
-
-byte-at-requires : tie.Need-byte-at-requires
-byte-at-requires c κs = search needs
-
-with-bit-requires : tie.Need-with-bit-requires
-with-bit-requires c κs = search needs
-
-store-requires : tie.Need-store-requires
-store-requires c κs = search needs
-
-same-length : tie.Need-same-length
-same-length c = search needs
 
 returns-3 : tie.Need-returns-3
 unfolding putInside putBit
@@ -58,14 +34,14 @@ pub write-bit-spec : {M : Type 1} → statement M
 write-bit-spec =
     tie.close
     (tie.spec
-    cast-if1
+    (λ c. search needs)
     returns
-    cast-contains
-    contains-requires
+    (λ c. search needs)
+    (λ c κs. search needs)
     returns-2
-    place-requires
-    byte-at-requires
-    with-bit-requires
-    store-requires
-    same-length
+    (λ c κs. search needs)
+    (λ c κs. search needs)
+    (λ c κs. search needs)
+    (λ c κs. search needs)
+    (λ c. search needs)
     returns-3)

@@ -6,18 +6,6 @@ use borrow.Author.Needs.{needs}
 use Rattle.streams.proofs.aim.Statement.{statement}
 use Rattle.streams.proofs.aim.Tie as tie
 
-enum-told : tie.Need-enum-told
-enum-told c = search needs
-
-enum-told-2 : tie.Need-enum-told-2
-enum-told-2 c = search needs
-
-enum-known-current : tie.Need-enum-known-current
-enum-known-current c = search needs
-
-target-of-requires : tie.Need-target-of-requires
-target-of-requires c κs = search needs
-
 returns : tie.Need-returns
 returns c = tt
 
@@ -31,10 +19,10 @@ pub aim-spec : {M : Type 1} → statement M
 aim-spec =
     tie.close
     (tie.spec
-    enum-told
-    enum-told-2
-    enum-known-current
-    target-of-requires
+    (λ c. search needs)
+    (λ c. search needs)
+    (λ c. search needs)
+    (λ c κs. search needs)
     returns
     returns-2
     returns-3)

@@ -23,12 +23,6 @@ abbrev μ-loop : tie.MeasureT-loop
 loop-holds : tie.Need-loop-holds Inv-loop μ-loop
 loop-holds c = (flow-first (c .before .before .pre) _ (omega arith), omega arith, c .before .before .pre)
 
-event-at-requires : tie.Need-event-at-requires Inv-loop μ-loop
-event-at-requires c κs = search needs
-
-flows-requires : tie.Need-flows-requires Inv-loop μ-loop
-flows-requires c κs = search needs
-
 sub-t18 : tie.Need-sub-t18 Inv-loop μ-loop
 sub-t18 c = c .before .before .before .before .loop .inv .1
 
@@ -37,18 +31,6 @@ same-length c = flow-length (c .before .before .before .before .loop .inv .0)
 
 returns : tie.Need-returns Inv-loop μ-loop
 returns c = c .before .before .before .before .loop .inv .0
-
-put-requires : tie.Need-put-requires Inv-loop μ-loop
-put-requires c κs = search needs
-
-on-from-requires : tie.Need-on-from-requires Inv-loop μ-loop
-on-from-requires c κs = search needs
-
-counted-requires : tie.Need-counted-requires Inv-loop μ-loop
-counted-requires c κs = search needs
-
-greatest-requires : tie.Need-greatest-requires Inv-loop μ-loop
-greatest-requires c κs = search needs
 
 add-i : tie.Need-add-i Inv-loop μ-loop
 add-i c = omega (arith, c .before .before .before .before .before .before .before .before .before .before .loop-test .taken, c .before .before .before .before .before .before .before .before .before .before .before .before .before .before .good)
@@ -87,15 +69,15 @@ flow-spec =
     Inv-loop
     μ-loop
     loop-holds
-    event-at-requires
-    flows-requires
+    (λ c κs. search needs)
+    (λ c κs. search needs)
     sub-t18
     same-length
     returns
-    put-requires
-    on-from-requires
-    counted-requires
-    greatest-requires
+    (λ c κs. search needs)
+    (λ c κs. search needs)
+    (λ c κs. search needs)
+    (λ c κs. search needs)
     add-i
     loop-less
     loop-again

@@ -9,12 +9,9 @@ returns : tie.Need-returns
 unfolding onFrom
 returns c = simp (lt-ltb _ _ (c .if1 .taken))
 
-next-requires : tie.Need-next-requires
-next-requires c κs = search needs
-
 returns-2 : tie.Need-returns-2
 unfolding onFrom
 returns-2 c = simp (c .next .ensures, le-ltb _ _ (c .before .if1 .left))
 
 pub on-from-spec : {M : Type 1} → statement M
-on-from-spec = tie.close (tie.spec returns next-requires returns-2)
+on-from-spec = tie.close (tie.spec returns (λ c κs. search needs) returns-2)

@@ -9,15 +9,9 @@ returns : tie.Need-returns
 unfolding putAt
 returns c = simp (lt-ltb _ _ (c .if1 .taken))
 
-write-requires : tie.Need-write-requires
-write-requires c κs = search needs
-
-same-length : tie.Need-same-length
-same-length c = search needs
-
 returns-2 : tie.Need-returns-2
 unfolding putAt
 returns-2 c = simp (c .before .before .write .ensures, le-ltb _ _ (c .before .before .before .before .if1 .left))
 
 pub put-spec : {M : Type 1} → statement M
-put-spec = tie.close (tie.spec returns write-requires same-length returns-2)
+put-spec = tie.close (tie.spec returns (λ c κs. search needs) (λ c. search needs) returns-2)

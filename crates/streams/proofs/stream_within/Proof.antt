@@ -8,41 +8,8 @@ use borrow.Author.Needs.{needs}
 use Rattle.streams.proofs.stream_within.Statement.{statement}
 use Rattle.streams.proofs.stream_within.Tie as tie
 
-lengths-fit-requires : tie.Need-lengths-fit-requires
-lengths-fit-requires c κs = search needs
-
-aim-requires : tie.Need-aim-requires
-aim-requires c κs = search needs
-
-enum-told : tie.Need-enum-told
-enum-told c = search needs
-
-enum-known-plane : tie.Need-enum-known-plane
-enum-known-plane c = search needs
-
-calm-requires : tie.Need-calm-requires
-calm-requires c κs = search needs
-
-flow-into-requires : tie.Need-flow-into-requires
-flow-into-requires c κs = search needs
-
-same-length : tie.Need-same-length
-same-length c = search needs
-
 returns : tie.Need-returns
 returns c = let g = c .before .before .before .before .before .before .before .before .before .before .before .before .before .before .before .before .before .before .before .args in let b : Buffers = buffers (g .old .now) (g .new .now) (g .states .now) (g .numbers .now) (g .picture .now) (g .rows .now) in stretch-older (g .events .now) (g .from) (g .p) b _ _ (c .before .before .flow-into .result) (sym (ap (calmWith (g .p)) (c .before .before .before .before .before .before .before .before .before .before .lengths-fit .ensures)) ∙ sym (c .before .before .before .before .before .calm .ensures) ∙ c .before .before .before .before .if1 .taken) (subst (λ (t : Target). Aims t (g .p .stage .current)) (c .before .before .before .before .before .before .before .plane .given .1) (c .before .before .before .before .before .before .before .before .before .aim .ensures)) (c .before .before .flow-into .ensures)
-
-enum-known-plane-2 : tie.Need-enum-known-plane-2
-enum-known-plane-2 c = search needs
-
-calm-requires-2 : tie.Need-calm-requires-2
-calm-requires-2 c κs = search needs
-
-flow-into-requires-2 : tie.Need-flow-into-requires-2
-flow-into-requires-2 c κs = search needs
-
-same-length-2 : tie.Need-same-length-2
-same-length-2 c = search needs
 
 returns-2 : tie.Need-returns-2
 returns-2 c = let g = c .before .before .before .before .before .before .before .before .before .before .before .before .before .before .before .before .before .before .before .args in let b : Buffers = buffers (g .old .now) (g .new .now) (g .states .now) (g .numbers .now) (g .picture .now) (g .rows .now) in stretch-newer (g .events .now) (g .from) (g .p) b _ _ (c .before .before .flow-into2 .result) (sym (ap (calmWith (g .p)) (c .before .before .before .before .before .before .before .before .before .before .lengths-fit .ensures)) ∙ sym (c .before .before .before .before .before .calm2 .ensures) ∙ c .before .before .before .before .if2 .taken) (subst (λ (t : Target). Aims t (g .p .stage .current)) (c .before .before .before .before .before .before .before .plane2 .given .1) (c .before .before .before .before .before .before .before .before .before .aim .ensures)) (c .before .before .flow-into2 .ensures)
@@ -60,18 +27,18 @@ pub stream-within-spec : {M : Type 1} → statement M
 stream-within-spec =
     tie.close
     (tie.spec
-    lengths-fit-requires
-    aim-requires
-    enum-told
-    enum-known-plane
-    calm-requires
-    flow-into-requires
-    same-length
+    (λ c κs. search needs)
+    (λ c κs. search needs)
+    (λ c. search needs)
+    (λ c. search needs)
+    (λ c κs. search needs)
+    (λ c κs. search needs)
+    (λ c. search needs)
     returns
-    enum-known-plane-2
-    calm-requires-2
-    flow-into-requires-2
-    same-length-2
+    (λ c. search needs)
+    (λ c κs. search needs)
+    (λ c κs. search needs)
+    (λ c. search needs)
     returns-2
     returns-3
     returns-4

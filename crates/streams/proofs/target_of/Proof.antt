@@ -4,9 +4,6 @@ use borrow.Author.Needs.{needs}
 use Rattle.streams.proofs.target_of.Statement.{statement}
 use Rattle.streams.proofs.target_of.Tie as tie
 
-takes-pixels-requires : tie.Need-takes-pixels-requires
-takes-pixels-requires c κs = search needs
-
 returns : tie.Need-returns
 returns c = record { active = refl; pixels = sym (c .before .before .before .takes-pixels .ensures) ∙ c .before .before .if1 .taken; is = c .if2 .taken }
 
@@ -20,4 +17,4 @@ returns-4 : tie.Need-returns-4
 returns-4 c = tt
 
 pub target-of-spec : {M : Type 1} → statement M
-target-of-spec = tie.close (tie.spec takes-pixels-requires returns returns-2 returns-3 returns-4)
+target-of-spec = tie.close (tie.spec (λ c κs. search needs) returns returns-2 returns-3 returns-4)

@@ -7,29 +7,11 @@ use Rattle.text.proofs.put.Tie as tie
 returns : tie.Need-returns
 returns c = let a = c .before .before .before .args in puts-full _ (a .text .now) (a .held) (c .if1 .taken)
 
-sub-room : tie.Need-sub-room
-sub-room c = search needs
-
-copy-requires : tie.Need-copy-requires
-copy-requires c κs = search needs
-
-same-length : tie.Need-same-length
-same-length c = search needs
-
 returns-2 : tie.Need-returns-2
 returns-2 c =
     let t = c .before .before .before .before in
     let a = t .before .before .before .before .args in
     puts-part (a .text .now) (a .held) (t .before .if1 .left) (a .bytes .now) _ (c .before .before .copy .ensures) (t .if2 .taken)
-
-copy-requires-2 : tie.Need-copy-requires-2
-copy-requires-2 c κs = search needs
-
-add-result : tie.Need-add-result
-add-result c = search needs
-
-same-length-2 : tie.Need-same-length-2
-same-length-2 c = search needs
 
 returns-3 : tie.Need-returns-3
 returns-3 c =
@@ -42,11 +24,11 @@ put-spec =
     tie.close
     (tie.spec
     returns
-    sub-room
-    copy-requires
-    same-length
+    (λ c. search needs)
+    (λ c κs. search needs)
+    (λ c. search needs)
     returns-2
-    copy-requires-2
-    add-result
-    same-length-2
+    (λ c κs. search needs)
+    (λ c. search needs)
+    (λ c. search needs)
     returns-3)

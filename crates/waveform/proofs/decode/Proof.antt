@@ -25,27 +25,6 @@ abbrev μ-loop : tie.MeasureT-loop
 loop-holds : tie.Need-loop-holds Inv-loop μ-loop
 loop-holds c = (refl, omega arith, refl)
 
-mul-decode-table : tie.Need-mul-decode-table Inv-loop μ-loop
-mul-decode-table c = search needs
-
-index-1-decode-table : tie.Need-index-1-decode-table Inv-loop μ-loop
-index-1-decode-table c = search needs
-
-decode-table-requires : tie.Need-decode-table-requires Inv-loop μ-loop
-decode-table-requires c κs = search needs
-
-mul-tables : tie.Need-mul-tables Inv-loop μ-loop
-mul-tables c = search needs
-
-array-set-from-tables : tie.Need-array-set-from-tables Inv-loop μ-loop
-array-set-from-tables c = search needs
-
-add-k : tie.Need-add-k Inv-loop μ-loop
-add-k c = search needs
-
-loop-less : tie.Need-loop-less Inv-loop μ-loop
-loop-less c = search needs
-
 loop-again : tie.Need-loop-again Inv-loop μ-loop
 loop-again c =
     let l = c .before .before .before .loop in
@@ -71,12 +50,12 @@ decode-spec =
     Inv-loop
     μ-loop
     loop-holds
-    mul-decode-table
-    index-1-decode-table
-    decode-table-requires
-    mul-tables
-    array-set-from-tables
-    add-k
-    loop-less
+    (λ c. search needs)
+    (λ c. search needs)
+    (λ c κs. search needs)
+    (λ c. search needs)
+    (λ c. search needs)
+    (λ c. search needs)
+    (λ c. search needs)
     loop-again
     returns)

@@ -21,20 +21,8 @@ Inv-loop group vcom supply swing repeats q₀ i₀ q i =
 abbrev μ-loop : tie.MeasureT-loop
 μ-loop group vcom supply swing repeats q₀ i₀ q i = repeats - i
 
-wide-requires : tie.Need-wide-requires Inv-loop μ-loop
-wide-requires c κs = search needs
-
 loop-holds : tie.Need-loop-holds Inv-loop μ-loop
 loop-holds c = (extends-none _ _, omega arith)
-
-drive-round-requires : tie.Need-drive-round-requires Inv-loop μ-loop
-drive-round-requires c κs = search needs
-
-add-i : tie.Need-add-i Inv-loop μ-loop
-add-i c = search needs
-
-loop-less : tie.Need-loop-less Inv-loop μ-loop
-loop-less c = search needs
 
 loop-again : tie.Need-loop-again Inv-loop μ-loop
 loop-again c =
@@ -61,10 +49,10 @@ drive-group-spec =
     (tie.spec
     Inv-loop
     μ-loop
-    wide-requires
+    (λ c κs. search needs)
     loop-holds
-    drive-round-requires
-    add-i
-    loop-less
+    (λ c κs. search needs)
+    (λ c. search needs)
+    (λ c. search needs)
     loop-again
     returns)

@@ -14,24 +14,6 @@ use borrow.Author.Needs.{needs}
 use Rattle.waveform.proofs.drive_phase.Statement.{statement}
 use Rattle.waveform.proofs.drive_phase.Tie as tie
 
-least-requires : tie.Need-least-requires
-least-requires c κs = search needs
-
-saturating-mul-requires : tie.Need-saturating-mul-requires
-saturating-mul-requires c κs = search needs
-
-saturating-mul-requires-2 : tie.Need-saturating-mul-requires-2
-saturating-mul-requires-2 c κs = search needs
-
-shift-requires : tie.Need-shift-requires
-shift-requires c κs = search needs
-
-then-requires : tie.Need-then-requires
-then-requires c κs = search needs
-
-sub-t12 : tie.Need-sub-t12
-sub-t12 c = search needs
-
 returns : tie.Need-returns
 returns c =
     λ z e b xs g.
@@ -51,10 +33,10 @@ pub drive-phase-spec : {M : Type 1} → statement M
 drive-phase-spec =
     tie.close
     (tie.spec
-    least-requires
-    saturating-mul-requires
-    saturating-mul-requires-2
-    shift-requires
-    then-requires
-    sub-t12
+    (λ c κs. search needs)
+    (λ c κs. search needs)
+    (λ c κs. search needs)
+    (λ c κs. search needs)
+    (λ c κs. search needs)
+    (λ c. search needs)
     returns)

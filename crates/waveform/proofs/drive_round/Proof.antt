@@ -32,30 +32,6 @@ abbrev μ-loop : tie.MeasureT-loop
 loop-holds : tie.Need-loop-holds Inv-loop μ-loop
 loop-holds c = (extends-none _ _, omega arith)
 
-array-read-wide : tie.Need-array-read-wide Inv-loop μ-loop
-array-read-wide c = search needs
-
-wide-requires : tie.Need-wide-requires Inv-loop μ-loop
-wide-requires c κs = search needs
-
-array-read-frame-drive : tie.Need-array-read-frame-drive Inv-loop μ-loop
-array-read-frame-drive c = search needs
-
-array-read-frame-drive-2 : tie.Need-array-read-frame-drive-2 Inv-loop μ-loop
-array-read-frame-drive-2 c = search needs
-
-frame-drive-requires : tie.Need-frame-drive-requires Inv-loop μ-loop
-frame-drive-requires c κs = search needs
-
-drive-phase-requires : tie.Need-drive-phase-requires Inv-loop μ-loop
-drive-phase-requires c κs = search needs
-
-add-i : tie.Need-add-i Inv-loop μ-loop
-add-i c = search needs
-
-loop-less : tie.Need-loop-less Inv-loop μ-loop
-loop-less c = search needs
-
 loop-again : tie.Need-loop-again Inv-loop μ-loop
 loop-again c =
     let l = c .before .before .before .before .loop in
@@ -83,13 +59,13 @@ drive-round-spec =
     Inv-loop
     μ-loop
     loop-holds
-    array-read-wide
-    wide-requires
-    array-read-frame-drive
-    array-read-frame-drive-2
-    frame-drive-requires
-    drive-phase-requires
-    add-i
-    loop-less
+    (λ c. search needs)
+    (λ c κs. search needs)
+    (λ c. search needs)
+    (λ c. search needs)
+    (λ c κs. search needs)
+    (λ c κs. search needs)
+    (λ c. search needs)
+    (λ c. search needs)
     loop-again
     returns)

@@ -40,15 +40,6 @@ few c h =
     let seven : length t ≡ 7 = search needs in
     omega (arith, c .before .before .before .running-groups .ensures, running-few t)
 
-running-groups-requires : tie.Need-running-groups-requires Inv-loop μ-loop
-running-groups-requires c κs = search needs
-
-running-groups-requires-2 : tie.Need-running-groups-requires-2 Inv-loop μ-loop
-running-groups-requires-2 c κs = search needs
-
-identity-requires : tie.Need-identity-requires Inv-loop μ-loop
-identity-requires c κs = search needs
-
 loop-holds : tie.Need-loop-holds Inv-loop μ-loop
 loop-holds c = (extends-none _ _, omega arith)
 
@@ -60,15 +51,6 @@ array-copy-out-drive-group c = few (c .before) (c .loop-test .taken)
 
 vcom-codes-requires : tie.Need-vcom-codes-requires Inv-loop μ-loop
 vcom-codes-requires c κs = c .before .before .before .before .running-groups2 .ensures
-
-drive-group-requires : tie.Need-drive-group-requires Inv-loop μ-loop
-drive-group-requires c κs = search needs
-
-add-k : tie.Need-add-k Inv-loop μ-loop
-add-k c = search needs
-
-loop-less : tie.Need-loop-less Inv-loop μ-loop
-loop-less c = search needs
 
 loop-again : tie.Need-loop-again Inv-loop μ-loop
 loop-again c =
@@ -102,15 +84,15 @@ drive-table-spec =
     (tie.spec
     Inv-loop
     μ-loop
-    running-groups-requires
-    running-groups-requires-2
-    identity-requires
+    (λ c κs. search needs)
+    (λ c κs. search needs)
+    (λ c κs. search needs)
     loop-holds
     mul-drive-group
     array-copy-out-drive-group
     vcom-codes-requires
-    drive-group-requires
-    add-k
-    loop-less
+    (λ c κs. search needs)
+    (λ c. search needs)
+    (λ c. search needs)
     loop-again
     returns)

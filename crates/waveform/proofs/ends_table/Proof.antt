@@ -9,12 +9,9 @@ returns : tie.Need-returns
 unfolding ends
 returns c = simp (eq-eqb _ _ (c .if1 .taken))
 
-round-frames-requires : tie.Need-round-frames-requires
-round-frames-requires c κs = search needs
-
 returns-2 : tie.Need-returns-2
 unfolding ends
 returns-2 c = simp (ne-eqb _ _ (c .before .if1 .left), c .round-frames .ensures .0)
 
 pub ends-table-spec : {M : Type 1} → statement M
-ends-table-spec = tie.close (tie.spec returns round-frames-requires returns-2)
+ends-table-spec = tie.close (tie.spec returns (λ c κs. search needs) returns-2)

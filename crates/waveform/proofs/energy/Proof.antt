@@ -6,14 +6,8 @@ use borrow.Author.Needs.{needs}
 use Rattle.waveform.proofs.energy.Statement.{statement}
 use Rattle.waveform.proofs.energy.Tie as tie
 
-saturating-sub-requires : tie.Need-saturating-sub-requires
-saturating-sub-requires c κs = search needs
-
-saturating-mul-requires : tie.Need-saturating-mul-requires
-saturating-mul-requires c κs = search needs
-
 returns : tie.Need-returns
 returns c = c .saturating-mul .ensures ∙ ap (λ (n : ℕ). min (n * c .before .before .args .period) top) (c .before .saturating-sub .ensures)
 
 pub energy-spec : {M : Type 1} → statement M
-energy-spec = tie.close (tie.spec saturating-sub-requires saturating-mul-requires returns)
+energy-spec = tie.close (tie.spec (λ c κs. search needs) (λ c κs. search needs) returns)

@@ -18,36 +18,6 @@ returns : tie.Need-returns
 unfolding driveOf floats
 returns c = simp (eq-eqb _ _ (c .if1 .taken))
 
-level-of-requires : tie.Need-level-of-requires
-level-of-requires c κs = search needs
-
-level-of-requires-2 : tie.Need-level-of-requires-2
-level-of-requires-2 c κs = search needs
-
-cast-above : tie.Need-cast-above
-cast-above c = search needs
-
-cast-above-2 : tie.Need-cast-above-2
-cast-above-2 c = search needs
-
-add-above : tie.Need-add-above
-add-above c = search needs
-
-cast-below : tie.Need-cast-below
-cast-below c = search needs
-
-cast-below-2 : tie.Need-cast-below-2
-cast-below-2 c = search needs
-
-add-below : tie.Need-add-below
-add-below c = search needs
-
-energy-requires : tie.Need-energy-requires
-energy-requires c κs = search needs
-
-energy-requires-2 : tie.Need-energy-requires-2
-energy-requires-2 c κs = search needs
-
 -- after both energies: they are the rise and the fall of the pixel's two levels
 module _ (c : tie.After-energy2) where
   abbrev start : tie.Start
@@ -96,15 +66,15 @@ frame-drive-spec =
     tie.close
     (tie.spec
     returns
-    level-of-requires
-    level-of-requires-2
-    cast-above
-    cast-above-2
-    add-above
-    cast-below
-    cast-below-2
-    add-below
-    energy-requires
-    energy-requires-2
+    (λ c κs. search needs)
+    (λ c κs. search needs)
+    (λ c. search needs)
+    (λ c. search needs)
+    (λ c. search needs)
+    (λ c. search needs)
+    (λ c. search needs)
+    (λ c. search needs)
+    (λ c κs. search needs)
+    (λ c κs. search needs)
     returns-2
     returns-3)

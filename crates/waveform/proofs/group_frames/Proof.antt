@@ -6,12 +6,6 @@ use borrow.Author.Needs.{needs}
 use Rattle.waveform.proofs.group_frames.Statement.{statement}
 use Rattle.waveform.proofs.group_frames.Tie as tie
 
-wide-requires : tie.Need-wide-requires
-wide-requires c κs = search needs
-
-round-frames-requires : tie.Need-round-frames-requires
-round-frames-requires c κs = search needs
-
 mul-result : tie.Need-mul-result
 mul-result c = record { fits = omega (arith, mul-le-mul (c .before .wide .ensures .1) (c .round-frames .ensures .1)) }
 
@@ -22,4 +16,4 @@ returns c = (
 )
 
 pub group-frames-spec : {M : Type 1} → statement M
-group-frames-spec = tie.close (tie.spec wide-requires round-frames-requires mul-result returns)
+group-frames-spec = tie.close (tie.spec (λ c κs. search needs) (λ c κs. search needs) mul-result returns)

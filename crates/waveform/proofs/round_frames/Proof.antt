@@ -15,24 +15,6 @@ Inv-loop frames sum₀ phase₀ sum phase = (sum ≡ sumTo phase (λ p. getD fra
 abbrev μ-loop : tie.MeasureT-loop
 μ-loop frames sum₀ phase₀ sum phase = 4 - phase
 
-loop-holds : tie.Need-loop-holds Inv-loop μ-loop
-loop-holds c = search needs
-
-array-read-wide : tie.Need-array-read-wide Inv-loop μ-loop
-array-read-wide c = search needs
-
-wide-requires : tie.Need-wide-requires Inv-loop μ-loop
-wide-requires c κs = search needs
-
-add-sum : tie.Need-add-sum Inv-loop μ-loop
-add-sum c = search needs
-
-add-phase : tie.Need-add-phase Inv-loop μ-loop
-add-phase c = search needs
-
-loop-less : tie.Need-loop-less Inv-loop μ-loop
-loop-less c = search needs
-
 loop-again : tie.Need-loop-again Inv-loop μ-loop
 loop-again c =
     let l = c .before .before .loop in
@@ -50,11 +32,11 @@ round-frames-spec =
     (tie.spec
     Inv-loop
     μ-loop
-    loop-holds
-    array-read-wide
-    wide-requires
-    add-sum
-    add-phase
-    loop-less
+    (λ c. search needs)
+    (λ c. search needs)
+    (λ c κs. search needs)
+    (λ c. search needs)
+    (λ c. search needs)
+    (λ c. search needs)
     loop-again
     returns)

@@ -15,29 +15,11 @@ Inv-loop table k₀ k = (k + length (running (drop k table)) ≡ length (running
 abbrev μ-loop : tie.MeasureT-loop
 μ-loop table k₀ k = 7 - k
 
-loop-holds : tie.Need-loop-holds Inv-loop μ-loop
-loop-holds c = search needs
-
-mul-ends-table : tie.Need-mul-ends-table Inv-loop μ-loop
-mul-ends-table c = search needs
-
-array-copy-out-ends-table : tie.Need-array-copy-out-ends-table Inv-loop μ-loop
-array-copy-out-ends-table c = search needs
-
-ends-table-requires : tie.Need-ends-table-requires Inv-loop μ-loop
-ends-table-requires c κs = search needs
-
 returns : tie.Need-returns Inv-loop μ-loop
 returns c =
     let l = c .before .before .before .before .loop in
     let t = c .before .before .before .before .before .args .t1 in
     omega (arith, l .inv .0, ap length (running-ends t (l .k) unread (search needs) (sym (c .before .ends-table .ensures) ∙ c .if1 .taken)))
-
-add-k : tie.Need-add-k Inv-loop μ-loop
-add-k c = search needs
-
-loop-less : tie.Need-loop-less Inv-loop μ-loop
-loop-less c = search needs
 
 loop-again : tie.Need-loop-again Inv-loop μ-loop
 loop-again c =
@@ -62,12 +44,12 @@ running-groups-spec =
     (tie.spec
     Inv-loop
     μ-loop
-    loop-holds
-    mul-ends-table
-    array-copy-out-ends-table
-    ends-table-requires
+    (λ c. search needs)
+    (λ c. search needs)
+    (λ c. search needs)
+    (λ c κs. search needs)
     returns
-    add-k
-    loop-less
+    (λ c. search needs)
+    (λ c. search needs)
     loop-again
     returns-2)

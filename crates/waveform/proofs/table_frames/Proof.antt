@@ -15,18 +15,6 @@ Inv-loop table sum₀ k₀ sum k = (sum + tableFrameCount (drop k table) ≡ tab
 abbrev μ-loop : tie.MeasureT-loop
 μ-loop table sum₀ k₀ sum k = 7 - k
 
-loop-holds : tie.Need-loop-holds Inv-loop μ-loop
-loop-holds c = search needs
-
-mul-ends-table : tie.Need-mul-ends-table Inv-loop μ-loop
-mul-ends-table c = search needs
-
-array-copy-out-ends-table : tie.Need-array-copy-out-ends-table Inv-loop μ-loop
-array-copy-out-ends-table c = search needs
-
-ends-table-requires : tie.Need-ends-table-requires Inv-loop μ-loop
-ends-table-requires c κs = search needs
-
 returns : tie.Need-returns Inv-loop μ-loop
 returns c =
     let l = c .before .before .before .before .loop in
@@ -38,24 +26,6 @@ returns c =
       ),
       omega arith,
     )
-
-mul-group-frames : tie.Need-mul-group-frames Inv-loop μ-loop
-mul-group-frames c = search needs
-
-array-copy-out-group-frames : tie.Need-array-copy-out-group-frames Inv-loop μ-loop
-array-copy-out-group-frames c = search needs
-
-group-frames-requires : tie.Need-group-frames-requires Inv-loop μ-loop
-group-frames-requires c κs = search needs
-
-add-sum : tie.Need-add-sum Inv-loop μ-loop
-add-sum c = search needs
-
-add-k : tie.Need-add-k Inv-loop μ-loop
-add-k c = search needs
-
-loop-less : tie.Need-loop-less Inv-loop μ-loop
-loop-less c = search needs
 
 loop-again : tie.Need-loop-again Inv-loop μ-loop
 loop-again c =
@@ -79,16 +49,16 @@ table-frames-spec =
     (tie.spec
     Inv-loop
     μ-loop
-    loop-holds
-    mul-ends-table
-    array-copy-out-ends-table
-    ends-table-requires
+    (λ c. search needs)
+    (λ c. search needs)
+    (λ c. search needs)
+    (λ c κs. search needs)
     returns
-    mul-group-frames
-    array-copy-out-group-frames
-    group-frames-requires
-    add-sum
-    add-k
-    loop-less
+    (λ c. search needs)
+    (λ c. search needs)
+    (λ c κs. search needs)
+    (λ c. search needs)
+    (λ c. search needs)
+    (λ c. search needs)
     loop-again
     returns-2)

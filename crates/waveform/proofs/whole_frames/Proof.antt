@@ -10,14 +10,8 @@ use Rattle.waveform.proofs.whole_frames.Tie as tie
 returns : tie.Need-returns
 returns c = rw (c .if1 .taken) (sym (div-zero (c .before .args .clock - c .before .args .start)))
 
-saturating-sub-requires : tie.Need-saturating-sub-requires
-saturating-sub-requires c κs = search needs
-
-div-result : tie.Need-div-result
-div-result c = search needs
-
 returns-2 : tie.Need-returns-2
 returns-2 c = ap (λ (n : ℕ). n / c .before .before .args .period) (c .saturating-sub .ensures)
 
 pub whole-frames-spec : {M : Type 1} → statement M
-whole-frames-spec = tie.close (tie.spec returns saturating-sub-requires div-result returns-2)
+whole-frames-spec = tie.close (tie.spec returns (λ c κs. search needs) (λ c. search needs) returns-2)

@@ -6,20 +6,8 @@ use borrow.Author.Needs.{needs}
 use Rattle.arriving.proofs.ends.arrive.Statement.{statement}
 use Rattle.arriving.proofs.ends.arrive.Tie as tie
 
-greatest-requires : tie.Need-greatest-requires
-greatest-requires c κs = search needs
-
 end-requires : tie.Need-end-requires
 end-requires c κs = (c .before .before .before .before .before .before .before .before .before .before .pre .0, λ h. c .before .before .before .before .before .before .before .before .before .before .pre .1 (ends-due _ _ _ _ (c .before .before .before .before .before .greatest .ensures) (c .before .before .before .if1 .taken) h))
-
-same-length : tie.Need-same-length
-same-length c = search needs
-
-same-length-2 : tie.Need-same-length-2
-same-length-2 c = search needs
-
-same-length-3 : tie.Need-same-length-3
-same-length-3 c = search needs
 
 returns : tie.Need-returns
 returns c = λ rows. c .before .before .before .before .before .end .ensures rows ∙ arrived-due _ _ (world _ (buffers _ _ _ _ _ rows)) (c .before .before .before .before .before .before .before .before .before .before .before .greatest .ensures) (c .before .before .before .before .before .before .before .before .before .if1 .taken)
@@ -31,10 +19,10 @@ pub arrive-spec : {M : Type 1} → statement M
 arrive-spec =
     tie.close
     (tie.spec
-    greatest-requires
+    (λ c κs. search needs)
     end-requires
-    same-length
-    same-length-2
-    same-length-3
+    (λ c. search needs)
+    (λ c. search needs)
+    (λ c. search needs)
     returns
     returns-2)

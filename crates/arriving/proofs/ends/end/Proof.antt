@@ -11,47 +11,8 @@ use borrow.Author.Needs.{needs}
 use Rattle.arriving.proofs.ends.end.Statement.{statement}
 use Rattle.arriving.proofs.ends.end.Tie as tie
 
-enum-told : tie.Need-enum-told
-enum-told c = search needs
-
-enum-told-2 : tie.Need-enum-told-2
-enum-told-2 c = search needs
-
-powered-requires : tie.Need-powered-requires
-powered-requires c κs = search needs
-
-enum-told-3 : tie.Need-enum-told-3
-enum-told-3 c = search needs
-
-powered-requires-2 : tie.Need-powered-requires-2
-powered-requires-2 c κs = search needs
-
-enum-told-4 : tie.Need-enum-told-4
-enum-told-4 c = search needs
-
-fall-asleep-requires : tie.Need-fall-asleep-requires
-fall-asleep-requires c κs = search needs
-
-enum-told-5 : tie.Need-enum-told-5
-enum-told-5 c = search needs
-
-rested-requires : tie.Need-rested-requires
-rested-requires c κs = search needs
-
-enum-told-6 : tie.Need-enum-told-6
-enum-told-6 c = search needs
-
-rested-requires-2 : tie.Need-rested-requires-2
-rested-requires-2 c κs = search needs
-
-enum-known-work : tie.Need-enum-known-work
-enum-known-work c = search needs
-
 finish-whole-requires : tie.Need-finish-whole-requires
 finish-whole-requires c κs = (c .before .before .before .before .before .before .before .before .before .before .before .pre .0, c .before .before .before .before .before .before .before .before .before .before .before .pre .1 (ap refreshRuns (c .before .before .before .before .work .given .1)))
-
-rested-requires-3 : tie.Need-rested-requires-3
-rested-requires-3 c κs = search needs
 
 returns : tie.Need-returns
 returns c = λ rows. let g = c .before .before .before .before .before .before .before .args in let w : World = world (g .p) (buffers (g .old .now) (g .new .now) (g .states .now) (g .numbers .now) (g .picture .now) rows) in by-work work.Nothing w w (c .enum-told .given .1) refl
@@ -71,15 +32,6 @@ returns-5 c = λ rows. let g = c .before .before .before .before .before .before
 returns-6 : tie.Need-returns-6
 returns-6 c = λ rows. let g = c .before .before .before .before .before .before .before .before .args in let w : World = world (g .p) (buffers (g .old .now) (g .new .now) (g .states .now) (g .numbers .now) (g .picture .now) rows) in by-work work.HardwareReset w _ (c .before .enum-told6 .given .1) (record-of (w .lent) (c .rested2 .ensures))
 
-same-length : tie.Need-same-length
-same-length c = search needs
-
-same-length-2 : tie.Need-same-length-2
-same-length-2 c = search needs
-
-same-length-3 : tie.Need-same-length-3
-same-length-3 c = search needs
-
 returns-7 : tie.Need-returns-7
 returns-7 c = λ rows. let g = c .before .before .before .before .before .before .before .before .before .before .before .before .before .before .before .before .before .before .args in let w : World = world (g .p) (buffers (g .old .now) (g .new .now) (g .states .now) (g .numbers .now) (g .picture .now) rows) in by-work _ w _ (c .before .before .before .before .before .before .before .before .before .before .before .work .given .1) (record-of _ (c .rested3 .ensures) ∙ ap (λ (w : World). onChip (withOperation rest) w) (c .before .before .before .before .before .before .finish-whole .ensures rows))
 
@@ -87,29 +39,29 @@ pub end-spec : {M : Type 1} → statement M
 end-spec =
     tie.close
     (tie.spec
-    enum-told
-    enum-told-2
-    powered-requires
-    enum-told-3
-    powered-requires-2
-    enum-told-4
-    fall-asleep-requires
-    enum-told-5
-    rested-requires
-    enum-told-6
-    rested-requires-2
-    enum-known-work
+    (λ c. search needs)
+    (λ c. search needs)
+    (λ c κs. search needs)
+    (λ c. search needs)
+    (λ c κs. search needs)
+    (λ c. search needs)
+    (λ c κs. search needs)
+    (λ c. search needs)
+    (λ c κs. search needs)
+    (λ c. search needs)
+    (λ c κs. search needs)
+    (λ c. search needs)
     finish-whole-requires
-    rested-requires-3
+    (λ c κs. search needs)
     returns
     returns-2
     returns-3
     returns-4
     returns-5
     returns-6
-    same-length
-    same-length-2
-    same-length-3
+    (λ c. search needs)
+    (λ c. search needs)
+    (λ c. search needs)
     returns-7)
 
 -- x

@@ -4,15 +4,6 @@ use borrow.Author.Needs.{needs}
 use Rattle.arriving.proofs.refreshes.copy_after.Statement.{statement}
 use Rattle.arriving.proofs.refreshes.copy_after.Tie as tie
 
-copies-new-to-old-requires : tie.Need-copies-new-to-old-requires
-copies-new-to-old-requires c κs = search needs
-
-copy-new-to-old-requires : tie.Need-copy-new-to-old-requires
-copy-new-to-old-requires c κs = search needs
-
-same-length : tie.Need-same-length
-same-length c = search needs
-
 returns : tie.Need-returns
 unfolding copiedIf
 returns c = rw (← c .before .before .before .before .before .copies-new-to-old .ensures) (simp (c .before .before .before .before .if1 .taken, c .before .before .copy-new-to-old .ensures))
@@ -24,4 +15,4 @@ returns-2 c = rw (← c .before .copies-new-to-old .ensures) (simp (c .if1 .left
 pub copy-after-spec : {M : Type 1} → statement M
 copy-after-spec =
     tie.close
-    (tie.spec copies-new-to-old-requires copy-new-to-old-requires same-length returns returns-2)
+    (tie.spec (λ c κs. search needs) (λ c κs. search needs) (λ c. search needs) returns returns-2)

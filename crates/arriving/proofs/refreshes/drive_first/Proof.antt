@@ -5,24 +5,6 @@ use borrow.Author.Needs.{needs}
 use Rattle.arriving.proofs.refreshes.drive_first.Statement.{statement}
 use Rattle.arriving.proofs.refreshes.drive_first.Tie as tie
 
-transfer-first-requires : tie.Need-transfer-first-requires
-transfer-first-requires c κs = search needs
-
-transfer-first-requires-2 : tie.Need-transfer-first-requires-2
-transfer-first-requires-2 c κs = search needs
-
-transfer-first-requires-3 : tie.Need-transfer-first-requires-3
-transfer-first-requires-3 c κs = search needs
-
-transfer-first-requires-4 : tie.Need-transfer-first-requires-4
-transfer-first-requires-4 c κs = search needs
-
-drive-requires : tie.Need-drive-requires
-drive-requires c κs = search needs
-
-same-length : tie.Need-same-length
-same-length c = search needs
-
 returns : tie.Need-returns
 returns c = c .before .drive .ensures ∙ driven-walked _ _ _ _ _ _ (c .before .before .before .before .before .before .before .before .pre .0) (c .before .before .before .before .before .before .transfer-first .ensures) (c .before .before .before .before .before .transfer-first2 .ensures) (c .before .before .before .before .transfer-first3 .ensures) (c .before .before .before .transfer-first4 .ensures) _ _ (c .before .before .before .before .before .before .before .before .pre .1)
 
@@ -30,10 +12,10 @@ pub drive-first-spec : {M : Type 1} → statement M
 drive-first-spec =
     tie.close
     (tie.spec
-    transfer-first-requires
-    transfer-first-requires-2
-    transfer-first-requires-3
-    transfer-first-requires-4
-    drive-requires
-    same-length
+    (λ c κs. search needs)
+    (λ c κs. search needs)
+    (λ c κs. search needs)
+    (λ c κs. search needs)
+    (λ c κs. search needs)
+    (λ c. search needs)
     returns)

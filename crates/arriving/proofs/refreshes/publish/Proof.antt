@@ -4,12 +4,9 @@ use borrow.Author.Needs.{needs}
 use Rattle.arriving.proofs.refreshes.publish.Statement.{statement}
 use Rattle.arriving.proofs.refreshes.publish.Tie as tie
 
-saturating-add-requires : tie.Need-saturating-add-requires
-saturating-add-requires c κs = search needs
-
 returns : tie.Need-returns
 unfolding published
 returns c = simp (c .saturating-add .ensures)
 
 pub publish-spec : {M : Type 1} → statement M
-publish-spec = tie.close (tie.spec saturating-add-requires returns)
+publish-spec = tie.close (tie.spec (λ c κs. search needs) returns)

@@ -9,30 +9,6 @@ use borrow.Author.Needs.{needs}
 use Rattle.arriving.proofs.resets.cut.Statement.{statement}
 use Rattle.arriving.proofs.resets.cut.Tie as tie
 
-enum-told : tie.Need-enum-told
-enum-told c = search needs
-
-enum-told-2 : tie.Need-enum-told-2
-enum-told-2 c = search needs
-
-enum-told-3 : tie.Need-enum-told-3
-enum-told-3 c = search needs
-
-enum-told-4 : tie.Need-enum-told-4
-enum-told-4 c = search needs
-
-enum-told-5 : tie.Need-enum-told-5
-enum-told-5 c = search needs
-
-enum-told-6 : tie.Need-enum-told-6
-enum-told-6 c = search needs
-
-enum-known-work : tie.Need-enum-known-work
-enum-known-work c = search needs
-
-tell-requires : tie.Need-tell-requires
-tell-requires c κs = search needs
-
 finish-cut-requires : tie.Need-finish-cut-requires
 finish-cut-requires c κs = kept-ready _ _ _ _ _ (buffers [] [] [] [] [] []) (c .before .before .before .before .before .before .before .before .before .before .before .before .before .args .states .now) (c .before .before .before .before .tell .ensures (buffers [] [] [] [] [] [])) (c .before .before .before .before .before .before .before .before .before .before .before .before .before .pre .0, c .before .before .before .before .before .before .before .before .before .before .before .before .before .pre .1 (ap refreshRuns (c .before .before .before .before .before .before .before .work .given .1)))
 
@@ -54,15 +30,6 @@ returns-5 c = λ old new. by-cut _ _ _ (c .enum-told5 .given .1) refl
 returns-6 : tie.Need-returns-6
 returns-6 c = λ old new. by-cut _ _ _ (c .enum-told6 .given .1) refl
 
-same-length : tie.Need-same-length
-same-length c = search needs
-
-same-length-2 : tie.Need-same-length-2
-same-length-2 c = search needs
-
-same-length-3 : tie.Need-same-length-3
-same-length-3 c = search needs
-
 returns-7 : tie.Need-returns-7
 returns-7 c = λ old new. by-cut _ _ _ (c .before .before .before .before .before .before .before .before .before .before .before .work .given .1) (tell-then-cut _ _ _ _ _ (c .before .before .before .finish-cut .ensures old new _) (c .before .before .before .before .before .before .before .before .tell .ensures (buffers old new (c .before .before .before .before .before .before .before .before .before .before .before .before .before .before .before .before .before .args .states .now) (c .before .before .before .before .before .before .before .before .before .before .before .before .before .before .before .before .before .args .numbers .now) (c .before .before .before .before .before .before .before .before .before .before .before .before .before .before .before .before .before .args .picture .now) [])))
 
@@ -70,14 +37,14 @@ pub cut-spec : {M : Type 1} → statement M
 cut-spec =
     tie.close
     (tie.spec
-    enum-told
-    enum-told-2
-    enum-told-3
-    enum-told-4
-    enum-told-5
-    enum-told-6
-    enum-known-work
-    tell-requires
+    (λ c. search needs)
+    (λ c. search needs)
+    (λ c. search needs)
+    (λ c. search needs)
+    (λ c. search needs)
+    (λ c. search needs)
+    (λ c. search needs)
+    (λ c κs. search needs)
     finish-cut-requires
     returns
     returns-2
@@ -85,7 +52,7 @@ cut-spec =
     returns-4
     returns-5
     returns-6
-    same-length
-    same-length-2
-    same-length-3
+    (λ c. search needs)
+    (λ c. search needs)
+    (λ c. search needs)
     returns-7)

@@ -9,24 +9,6 @@ use borrow.Author.Needs.{needs}
 use Rattle.arriving.proofs.resets.fall.Statement.{statement}
 use Rattle.arriving.proofs.resets.fall.Tie as tie
 
-cut-requires : tie.Need-cut-requires
-cut-requires c κs = search needs
-
-close-requires : tie.Need-close-requires
-close-requires c κs = search needs
-
-clear-requires : tie.Need-clear-requires
-clear-requires c κs = search needs
-
-same-length : tie.Need-same-length
-same-length c = search needs
-
-same-length-2 : tie.Need-same-length-2
-same-length-2 c = search needs
-
-same-length-3 : tie.Need-same-length-3
-same-length-3 c = search needs
-
 returns : tie.Need-returns
 returns c = λ old new. record-of _ (c .clear .ensures) ∙ ap (λ (w : World). onChip cleared w) (c .before .before .before .close .ensures (buffers old new _ _ _ []) ∙ ap closed (c .before .before .before .before .before .before .before .before .before .before .cut .ensures old new))
 
@@ -34,10 +16,10 @@ pub fall-spec : {M : Type 1} → statement M
 fall-spec =
     tie.close
     (tie.spec
-    cut-requires
-    close-requires
-    clear-requires
-    same-length
-    same-length-2
-    same-length-3
+    (λ c κs. search needs)
+    (λ c κs. search needs)
+    (λ c κs. search needs)
+    (λ c. search needs)
+    (λ c. search needs)
+    (λ c. search needs)
     returns)

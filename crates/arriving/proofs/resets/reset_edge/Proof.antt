@@ -8,50 +8,20 @@ use borrow.Author.Needs.{needs}
 use Rattle.arriving.proofs.resets.reset_edge.Statement.{statement}
 use Rattle.arriving.proofs.resets.reset_edge.Tie as tie
 
-enum-told : tie.Need-enum-told
-enum-told c = search needs
-
 fall-requires : tie.Need-fall-requires
 fall-requires c κs = (c .before .before .before .before .before .before .before .before .before .before .pre .0, λ h. c .before .before .before .before .before .before .before .before .before .before .pre .1 h (cut-by _ _ power.Running (c .before .before .before .before .enum-told .given .1) (c .before .before .before .if1 .taken) refl))
-
-same-length : tie.Need-same-length
-same-length c = search needs
-
-same-length-2 : tie.Need-same-length-2
-same-length-2 c = search needs
-
-same-length-3 : tie.Need-same-length-3
-same-length-3 c = search needs
 
 returns : tie.Need-returns
 returns c = λ old new. let g = c .before .before .before .before .before .before .before .before .before .before .before .before .before .before .before .before .args in let w : World = world (g .p) (buffers old new (g .states .now) (g .numbers .now) (g .picture .now) (g .rows .now)) in by-fall power.Running (g .asserted) w _ (c .before .before .before .before .before .before .before .before .before .if1 .taken) (c .before .before .before .before .before .before .before .before .before .before .enum-told .given .1) (c .before .before .before .before .before .fall .ensures old new)
 
-enum-told-2 : tie.Need-enum-told-2
-enum-told-2 c = search needs
-
 fall-requires-2 : tie.Need-fall-requires-2
 fall-requires-2 c κs = (c .before .before .before .before .before .before .before .before .before .before .pre .0, λ h. c .before .before .before .before .before .before .before .before .before .before .pre .1 h (cut-by _ _ power.Asleep (c .before .before .before .before .enum-told2 .given .1) (c .before .before .before .if2 .taken) refl))
-
-same-length-4 : tie.Need-same-length-4
-same-length-4 c = search needs
-
-same-length-5 : tie.Need-same-length-5
-same-length-5 c = search needs
-
-same-length-6 : tie.Need-same-length-6
-same-length-6 c = search needs
 
 returns-2 : tie.Need-returns-2
 returns-2 c = λ old new. let g = c .before .before .before .before .before .before .before .before .before .before .before .before .before .before .before .before .args in let w : World = world (g .p) (buffers old new (g .states .now) (g .numbers .now) (g .picture .now) (g .rows .now)) in by-fall power.Asleep (g .asserted) w _ (c .before .before .before .before .before .before .before .before .before .if2 .taken) (c .before .before .before .before .before .before .before .before .before .before .enum-told2 .given .1) (c .before .before .before .before .before .fall2 .ensures old new)
 
-enum-told-3 : tie.Need-enum-told-3
-enum-told-3 c = search needs
-
 returns-3 : tie.Need-returns-3
 returns-3 c = λ old new. let g = c .before .before .before .before .before .before .before .args in let w : World = world (g .p) (buffers old new (g .states .now) (g .numbers .now) (g .picture .now) (g .rows .now)) in by-fall power.InReset (g .asserted) w w (c .if3 .taken) (c .before .enum-told3 .given .1) refl
-
-rise-requires : tie.Need-rise-requires
-rise-requires c κs = search needs
 
 returns-4 : tie.Need-returns-4
 returns-4 c = λ old new. let g = c .before .before .before .before .before .before .before .args in let w : World = world (g .p) (buffers old new (g .states .now) (g .numbers .now) (g .picture .now) (g .rows .now)) in by-rise power.Running (g .asserted) w w (c .if1 .left) (c .before .enum-told .given .1) refl
@@ -66,21 +36,21 @@ pub reset-edge-spec : {M : Type 1} → statement M
 reset-edge-spec =
     tie.close
     (tie.spec
-    enum-told
+    (λ c. search needs)
     fall-requires
-    same-length
-    same-length-2
-    same-length-3
+    (λ c. search needs)
+    (λ c. search needs)
+    (λ c. search needs)
     returns
-    enum-told-2
+    (λ c. search needs)
     fall-requires-2
-    same-length-4
-    same-length-5
-    same-length-6
+    (λ c. search needs)
+    (λ c. search needs)
+    (λ c. search needs)
     returns-2
-    enum-told-3
+    (λ c. search needs)
     returns-3
-    rise-requires
+    (λ c κs. search needs)
     returns-4
     returns-5
     returns-6)

@@ -3,21 +3,6 @@ use borrow.Author.Needs.{needs}
 use Rattle.command.proofs.sorting.is_read_command.Statement.{statement}
 use Rattle.command.proofs.sorting.is_read_command.Tie as tie
 
-kind-requires : tie.Need-kind-requires
-kind-requires c κs = search needs
-
-enum-told : tie.Need-enum-told
-enum-told c = search needs
-
-enum-told-2 : tie.Need-enum-told-2
-enum-told-2 c = search needs
-
-enum-told-3 : tie.Need-enum-told-3
-enum-told-3 c = search needs
-
-enum-told-4 : tie.Need-enum-told-4
-enum-told-4 c = search needs
-
 returns : tie.Need-returns
 returns c = rw (← c .before .before .kind .ensures) (simp (c .enum-told .given .1))
 
@@ -34,11 +19,11 @@ pub is-read-command-spec : {M : Type 1} → statement M
 is-read-command-spec =
     tie.close
     (tie.spec
-    kind-requires
-    enum-told
-    enum-told-2
-    enum-told-3
-    enum-told-4
+    (λ c κs. search needs)
+    (λ c. search needs)
+    (λ c. search needs)
+    (λ c. search needs)
+    (λ c. search needs)
     returns
     returns-2
     returns-3

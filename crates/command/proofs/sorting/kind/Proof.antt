@@ -56,12 +56,6 @@ is-unknown Unknown t = refl
 gap : (v : Variant) (x lo n : ℕ) → T (eachBut (λ k. unknown (kindOf k v)) (keysOf arms) lo n) → Rest arms x → lo ≤ x → x < lo + n → Unknown ≡ kindOf x v
 gap v x lo n t rest h k = is-unknown (kindOf x v) (test-in-range (λ k. unknown (kindOf k v)) (keysOf arms) lo n x t (no-key arms x rest) h k)
 
-enum-told : tie.Need-enum-told
-enum-told c = search needs
-
-enum-told-2 : tie.Need-enum-told-2
-enum-told-2 c = search needs
-
 returns : tie.Need-returns
 unfolding kindOf
 returns c = let a = c .before .args in arm (a .variant) (a .command) (0x00 ∷ []) (refl, tt) (c .match .keys2)
@@ -183,4 +177,4 @@ unfolding kindOf
 returns-30 c = let a = c .before .before .before .args in run (a .variant) (a .command) 0x91 2 (refl, (refl, tt)) (c .before .before .match .rest) (omega arith) (omega arith)
 
 pub kind-spec : {M : Type 1} → statement M
-kind-spec = tie.close (tie.spec enum-told enum-told-2 returns returns-2 returns-3 returns-4 returns-5 returns-6 returns-7 returns-8 returns-9 returns-10 returns-11 returns-12 returns-13 returns-14 returns-15 returns-16 returns-17 returns-18 returns-19 returns-20 returns-21 returns-22 returns-23 returns-24 returns-25 returns-26 returns-27 returns-28 returns-29 returns-30)
+kind-spec = tie.close (tie.spec (λ c. search needs) (λ c. search needs) returns returns-2 returns-3 returns-4 returns-5 returns-6 returns-7 returns-8 returns-9 returns-10 returns-11 returns-12 returns-13 returns-14 returns-15 returns-16 returns-17 returns-18 returns-19 returns-20 returns-21 returns-22 returns-23 returns-24 returns-25 returns-26 returns-27 returns-28 returns-29 returns-30)

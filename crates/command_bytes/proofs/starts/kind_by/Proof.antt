@@ -4,9 +4,6 @@ use borrow.Author.Needs.{needs}
 use Rattle.command_bytes.proofs.starts.kind_by.Statement.{statement}
 use Rattle.command_bytes.proofs.starts.kind_by.Tie as tie
 
-some-undriven-requires : tie.Need-some-undriven-requires
-some-undriven-requires c κs = search needs
-
 returns : tie.Need-returns
 unfolding kindBy
 returns c = rw (← c .before .some-undriven .ensures) (simp (c .if1 .taken))
@@ -16,4 +13,4 @@ unfolding kindBy
 returns-2 c = rw (← c .before .some-undriven .ensures) (simp (c .if1 .left))
 
 pub kind-by-spec : {M : Type 1} → statement M
-kind-by-spec = tie.close (tie.spec some-undriven-requires returns returns-2)
+kind-by-spec = tie.close (tie.spec (λ c κs. search needs) returns returns-2)

@@ -4,24 +4,6 @@ use borrow.Author.Needs.{needs}
 use Rattle.command_bytes.proofs.starts.waveform_now.Statement.{statement}
 use Rattle.command_bytes.proofs.starts.waveform_now.Tie as tie
 
-from-power-setting-requires : tie.Need-from-power-setting-requires
-from-power-setting-requires c κs = search needs
-
-bytes-requires : tie.Need-bytes-requires
-bytes-requires c κs = search needs
-
-cast-new : tie.Need-cast-new
-cast-new c = search needs
-
-mul-new : tie.Need-mul-new
-mul-new c = search needs
-
-array-read-new : tie.Need-array-read-new
-array-read-new c = search needs
-
-new-requires : tie.Need-new-requires
-new-requires c κs = search needs
-
 returns : tie.Need-returns
 unfolding waveformNow
 returns c = simp (c .new .ensures, c .before .before .bytes .ensures, c .before .before .before .before .from-power-setting .ensures)
@@ -30,10 +12,10 @@ pub waveform-now-spec : {M : Type 1} → statement M
 waveform-now-spec =
     tie.close
     (tie.spec
-    from-power-setting-requires
-    bytes-requires
-    cast-new
-    mul-new
-    array-read-new
-    new-requires
+    (λ c κs. search needs)
+    (λ c κs. search needs)
+    (λ c. search needs)
+    (λ c. search needs)
+    (λ c. search needs)
+    (λ c κs. search needs)
     returns)

@@ -4,12 +4,9 @@ use Rattle.config.specs.Refusal.{periodRefused}
 use Rattle.config.proofs.Uc8253Config.period_refused.Statement.{statement}
 use Rattle.config.proofs.Uc8253Config.period_refused.Tie as tie
 
-some-zero-requires : tie.Need-some-zero-requires
-some-zero-requires c κs = search needs
-
 returns : tie.Need-returns
 unfolding periodRefused
 returns c = c .some-zero .ensures
 
 pub period-refused-spec : {M : Type 1} → statement M
-period-refused-spec = tie.close (tie.spec some-zero-requires returns)
+period-refused-spec = tie.close (tie.spec (λ c κs. search needs) returns)

@@ -5,15 +5,9 @@ use Rattle.config.specs.Refusal.{refusal}
 use Rattle.config.proofs.Uc8253Config.validate.Statement.{statement}
 use Rattle.config.proofs.Uc8253Config.validate.Tie as tie
 
-empty-panel-requires : tie.Need-empty-panel-requires
-empty-panel-requires c κs = search needs
-
 returns : tie.Need-returns
 unfolding refusal
 returns c = simp (sym (c .before .empty-panel .ensures) ∙ c .if1 .taken)
-
-oversized-panel-requires : tie.Need-oversized-panel-requires
-oversized-panel-requires c κs = search needs
 
 returns-2 : tie.Need-returns-2
 unfolding refusal
@@ -21,18 +15,12 @@ returns-2 c =
     let first = c .before .before in
     simp (sym (first .before .empty-panel .ensures) ∙ first .if1 .left, sym (c .before .oversized-panel .ensures) ∙ c .if2 .taken)
 
-swing-refused-requires : tie.Need-swing-refused-requires
-swing-refused-requires c κs = search needs
-
 returns-3 : tie.Need-returns-3
 unfolding refusal
 returns-3 c =
     let second = c .before .before in
     let first = second .before .before in
     simp (sym (first .before .empty-panel .ensures) ∙ first .if1 .left, sym (second .before .oversized-panel .ensures) ∙ second .if2 .left, sym (c .before .swing-refused .ensures) ∙ c .if3 .taken)
-
-period-refused-requires : tie.Need-period-refused-requires
-period-refused-requires c κs = search needs
 
 returns-4 : tie.Need-returns-4
 unfolding refusal
@@ -54,12 +42,12 @@ pub validate-spec : {M : Type 1} → statement M
 validate-spec =
     tie.close
     (tie.spec
-    empty-panel-requires
+    (λ c κs. search needs)
     returns
-    oversized-panel-requires
+    (λ c κs. search needs)
     returns-2
-    swing-refused-requires
+    (λ c κs. search needs)
     returns-3
-    period-refused-requires
+    (λ c κs. search needs)
     returns-4
     returns-5)

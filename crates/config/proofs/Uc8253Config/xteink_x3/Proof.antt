@@ -3,17 +3,8 @@ use borrow.Author.Needs.{needs}
 use Rattle.config.proofs.Uc8253Config.xteink_x3.Statement.{statement}
 use Rattle.config.proofs.Uc8253Config.xteink_x3.Tie as tie
 
-xteink-x3-requires : tie.Need-xteink-x3-requires
-xteink-x3-requires c κs = search needs
-
-xteink-x3-requires-2 : tie.Need-xteink-x3-requires-2
-xteink-x3-requires-2 c κs = search needs
-
-xteink-x3-requires-3 : tie.Need-xteink-x3-requires-3
-xteink-x3-requires-3 c κs = search needs
-
 returns : tie.Need-returns
 returns c = simp (c .before .before .xteink-x3 .ensures, c .before .xteink-x32 .ensures, c .xteink-x33 .ensures)
 
 pub xteink-x3-spec : {M : Type 1} → statement M
-xteink-x3-spec = tie.close (tie.spec xteink-x3-requires xteink-x3-requires-2 xteink-x3-requires-3 returns)
+xteink-x3-spec = tie.close (tie.spec (λ c κs. search needs) (λ c κs. search needs) (λ c κs. search needs) returns)

@@ -3,11 +3,8 @@ use borrow.Author.Needs.{needs}
 use Rattle.config.proofs.Uc8253Config.xteink_x3_uc8279d.Statement.{statement}
 use Rattle.config.proofs.Uc8253Config.xteink_x3_uc8279d.Tie as tie
 
-xteink-x3-requires : tie.Need-xteink-x3-requires
-xteink-x3-requires c κs = search needs
-
 returns : tie.Need-returns
 returns c = simp (c .before .before .before .xteink-x3 .ensures)
 
 pub xteink-x3-uc8279d-spec : {M : Type 1} → statement M
-xteink-x3-uc8279d-spec = tie.close (tie.spec xteink-x3-requires returns)
+xteink-x3-uc8279d-spec = tie.close (tie.spec (λ c κs. search needs) returns)

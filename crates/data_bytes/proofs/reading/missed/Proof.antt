@@ -4,18 +4,6 @@ use borrow.Author.Needs.{needs}
 use Rattle.data_bytes.proofs.reading.missed.Statement.{statement}
 use Rattle.data_bytes.proofs.reading.missed.Tie as tie
 
-enum-told : tie.Need-enum-told
-enum-told c = search needs
-
-enum-told-2 : tie.Need-enum-told-2
-enum-told-2 c = search needs
-
-tell-requires : tie.Need-tell-requires
-tell-requires c κs = search needs
-
-same-length : tie.Need-same-length
-same-length c = search needs
-
 returns : tie.Need-returns
 returns c = λ b. simp (c .before .before .before .before .before .before .enum-told2 .given .1, eq-eqb _ _ (c .before .before .before .before .if1 .taken)) (c .before .before .tell .ensures b)
 
@@ -28,4 +16,4 @@ returns-3 c = λ b. simp (c .before .before .enum-told2 .given .1, ne-eqb _ _ (c
 pub missed-spec : {M : Type 1} → statement M
 missed-spec =
     tie.close
-    (tie.spec enum-told enum-told-2 tell-requires same-length returns returns-2 returns-3)
+    (tie.spec (λ c. search needs) (λ c. search needs) (λ c κs. search needs) (λ c. search needs) returns returns-2 returns-3)

@@ -8,21 +8,6 @@ use borrow.Author.Needs.{needs}
 use Rattle.data_bytes.proofs.reading.read_byte.Statement.{statement}
 use Rattle.data_bytes.proofs.reading.read_byte.Tie as tie
 
-enum-known-current : tie.Need-enum-known-current
-enum-known-current c = search needs
-
-read-under-requires : tie.Need-read-under-requires
-read-under-requires c κs = search needs
-
-enum-told : tie.Need-enum-told
-enum-told c = search needs
-
-enum-told-2 : tie.Need-enum-told-2
-enum-told-2 c = search needs
-
-same-length : tie.Need-same-length
-same-length c = search needs
-
 returns : tie.Need-returns
 unfolding reading readOf
 returns c = let g = c .before .before .before .before .before .before .before .before .before .args in (λ b. let w = world (g .p) (withRows (g .rows .now) b) in in-case (λ (x : Current). readingBy x w) (c .before .before .before .before .before .current .given .1) (c .before .before .read-under .ensures .0 b), in-case (λ (x : Current). readFrom x (g .p)) (c .before .before .before .before .before .current .given .1) (c .before .before .read-under .ensures .1))
@@ -39,11 +24,11 @@ pub read-byte-spec : {M : Type 1} → statement M
 read-byte-spec =
     tie.close
     (tie.spec
-    enum-known-current
-    read-under-requires
-    enum-told
-    enum-told-2
-    same-length
+    (λ c. search needs)
+    (λ c κs. search needs)
+    (λ c. search needs)
+    (λ c. search needs)
+    (λ c. search needs)
     returns
     returns-2
     returns-3)

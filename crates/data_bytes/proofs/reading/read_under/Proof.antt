@@ -11,33 +11,6 @@ use borrow.Author.Needs.{needs}
 use Rattle.data_bytes.proofs.reading.read_under.Statement.{statement}
 use Rattle.data_bytes.proofs.reading.read_under.Tie as tie
 
-enum-told : tie.Need-enum-told
-enum-told c = search needs
-
-driven-byte-requires : tie.Need-driven-byte-requires
-driven-byte-requires c κs = search needs
-
-read-more-requires : tie.Need-read-more-requires
-read-more-requires c κs = search needs
-
-with-current-requires : tie.Need-with-current-requires
-with-current-requires c κs = search needs
-
-missed-requires : tie.Need-missed-requires
-missed-requires c κs = search needs
-
-enum-told-2 : tie.Need-enum-told-2
-enum-told-2 c = search needs
-
-enum-told-3 : tie.Need-enum-told-3
-enum-told-3 c = search needs
-
-enum-told-4 : tie.Need-enum-told-4
-enum-told-4 c = search needs
-
-same-length : tie.Need-same-length
-same-length c = search needs
-
 returns : tie.Need-returns
 returns c = let g = c .before .before .before .before .before .before .before .before .before .before .args in (λ b. let w = world (g .p) (withRows (g .rows .now) b) in in-case (λ (k : Kind). afterRead k (g .a) w) (c .before .before .before .before .before .before .before .enum-told .given .1) (c .before .before .missed .ensures b ∙ (ap (λ (x : Read). missedBy x (g .a) (world (c .before .before .before .before .with-current .result) (withRows (g .rows .now) b))) (c .before .before .before .before .before .before .driven-byte .ensures) ∙ ap (λ (v : World). missedBy (drivenByte (g .p .config .variant) (g .p) (g .a .command) (g .a .read)) (g .a) v) (changed (under (readMore (g .a))) (g .p) (set (g .p) (c .before .before .before .before .with-current .ensures) (c .before .before .before .before .before .read-more .ensures))))), in-case (λ (k : Kind). readUnder k (g .a) (g .p)) (c .before .before .before .before .before .before .before .enum-told .given .1) (c .before .before .before .before .before .before .driven-byte .ensures))
 
@@ -54,15 +27,15 @@ pub read-under-spec : {M : Type 1} → statement M
 read-under-spec =
     tie.close
     (tie.spec
-    enum-told
-    driven-byte-requires
-    read-more-requires
-    with-current-requires
-    missed-requires
-    enum-told-2
-    enum-told-3
-    enum-told-4
-    same-length
+    (λ c. search needs)
+    (λ c κs. search needs)
+    (λ c κs. search needs)
+    (λ c κs. search needs)
+    (λ c κs. search needs)
+    (λ c. search needs)
+    (λ c. search needs)
+    (λ c. search needs)
+    (λ c. search needs)
     returns
     returns-2
     returns-3

@@ -8,15 +8,6 @@ use Rattle.glass.proofs.TransferLaws.{act-is}
 use Rattle.glass.proofs.Transfer.apply.Statement.{statement}
 use Rattle.glass.proofs.Transfer.apply.Tie as tie
 
-moved-requires : tie.Need-moved-requires
-moved-requires c κs = search needs
-
-least-requires : tie.Need-least-requires
-least-requires c κs = search needs
-
-greatest-requires : tie.Need-greatest-requires
-greatest-requires c κs = search needs
-
 held-twice : (lo hi v w l g : ℕ) → hi ≤ top → w ≡ min v top → l ≡ min w hi → g ≡ max lo l → g ≡ max lo (min v hi)
 held-twice lo hi v w l g h p q r = omega arith
 
@@ -28,4 +19,4 @@ returns c =
     ∙ sym (act-is t (s .args .state))
 
 pub apply-spec : {M : Type 1} → statement M
-apply-spec = tie.close (tie.spec moved-requires least-requires greatest-requires returns)
+apply-spec = tie.close (tie.spec (λ c κs. search needs) (λ c κs. search needs) (λ c κs. search needs) returns)

@@ -8,27 +8,6 @@ use borrow.Author.Needs.{needs}
 use Rattle.numbers.proofs.Mapping.of.Statement.{statement}
 use Rattle.numbers.proofs.Mapping.of.Tie as tie
 
-array-read-first : tie.Need-array-read-first
-array-read-first c = search needs
-
-psr-shl-requires : tie.Need-psr-shl-requires
-psr-shl-requires c κs = search needs
-
-psr-ud-requires : tie.Need-psr-ud-requires
-psr-ud-requires c κs = search needs
-
-active-requires : tie.Need-active-requires
-active-requires c κs = search needs
-
-written-requires : tie.Need-written-requires
-written-requires c κs = search needs
-
-one-is-white-requires : tie.Need-one-is-white-requires
-one-is-white-requires c κs = search needs
-
-white-bit-requires : tie.Need-white-bit-requires
-white-bit-requires c κs = search needs
-
 returns : tie.Need-returns
 unfolding mappingOf
 returns c =
@@ -45,11 +24,11 @@ pub of-spec : {M : Type 1} → statement M
 of-spec =
     tie.close
     (tie.spec
-    array-read-first
-    psr-shl-requires
-    psr-ud-requires
-    active-requires
-    written-requires
-    one-is-white-requires
-    white-bit-requires
+    (λ c. search needs)
+    (λ c κs. search needs)
+    (λ c κs. search needs)
+    (λ c κs. search needs)
+    (λ c κs. search needs)
+    (λ c κs. search needs)
+    (λ c κs. search needs)
     returns)

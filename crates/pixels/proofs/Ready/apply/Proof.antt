@@ -12,25 +12,10 @@ use Rattle.pixels.proofs.Machine.{up-fits}
 use Rattle.pixels.proofs.Ready.apply.Statement.{statement}
 use Rattle.pixels.proofs.Ready.apply.Tie as tie
 
-above-requires : tie.Need-above-requires
-above-requires c κs = search needs
-
 add-least : tie.Need-add-least
 add-least c =
     let s = c .before .before in
     record { fits = omega (arith, c .before .above .ensures, ap up (toZ-ofZ (s .fits .z)), up-fits (s .fits .z), s .pre .added) }
-
-least-requires : tie.Need-least-requires
-least-requires c κs = search needs
-
-greatest-requires : tie.Need-greatest-requires
-greatest-requires c κs = search needs
-
-sub-result : tie.Need-sub-result
-sub-result c = search needs
-
-cast-result : tie.Need-cast-result
-cast-result c = search needs
 
 returns : tie.Need-returns
 unfolding movedReady
@@ -48,10 +33,10 @@ pub apply-spec : {M : Type 1} → statement M
 apply-spec =
     tie.close
     (tie.spec
-    above-requires
+    (λ c κs. search needs)
     add-least
-    least-requires
-    greatest-requires
-    sub-result
-    cast-result
+    (λ c κs. search needs)
+    (λ c κs. search needs)
+    (λ c. search needs)
+    (λ c. search needs)
     returns)

@@ -8,18 +8,6 @@ use Rattle.ram.proofs.ByteLaws.{with-bit-byte, bit-small, bit-within, s
 use Rattle.ram.proofs.byte.with_bit.Statement.{statement}
 use Rattle.ram.proofs.byte.with_bit.Tie as tie
 
-sub-shift : tie.Need-sub-shift
-sub-shift c = search needs
-
-bit-of-requires : tie.Need-bit-of-requires
-bit-of-requires c κs = search needs
-
-cast-result : tie.Need-cast-result
-cast-result c = search needs
-
-shl-result : tie.Need-shl-result
-shl-result c = search needs
-
 old-weight : (c : tie.After-bit-of) → c .bit-of .result * 2 ^ (7 - c .before .args .k) % 256 ≡ bitOf (c .before .args .b) (c .before .args .k) * 2 ^ (7 - c .before .args .k)
 old-weight c =
     let a = c .before .args in
@@ -30,12 +18,6 @@ new-weight c = shifted (c .before .args .k) (c .before .args .v) (c .before .pre
 
 sub-result : tie.Need-sub-result
 sub-result c = rw (old-weight c) (bit-within (c .before .args .b) (c .before .args .k))
-
-cast-result-2 : tie.Need-cast-result-2
-cast-result-2 c = search needs
-
-shl-result-2 : tie.Need-shl-result-2
-shl-result-2 c = search needs
 
 add-result : tie.Need-add-result
 unfolding withBit
@@ -51,12 +33,12 @@ pub with-bit-spec : {M : Type 1} → statement M
 with-bit-spec =
     tie.close
     (tie.spec
-    sub-shift
-    bit-of-requires
-    cast-result
-    shl-result
+    (λ c. search needs)
+    (λ c κs. search needs)
+    (λ c. search needs)
+    (λ c. search needs)
     sub-result
-    cast-result-2
-    shl-result-2
+    (λ c. search needs)
+    (λ c. search needs)
     add-result
     returns)

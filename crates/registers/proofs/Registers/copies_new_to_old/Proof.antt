@@ -3,21 +3,9 @@ use borrow.Author.Needs.{needs}
 use Rattle.registers.proofs.Registers.copies_new_to_old.Statement.{statement}
 use Rattle.registers.proofs.Registers.copies_new_to_old.Tie as tie
 
-element-copy-out-cdi : tie.Need-element-copy-out-cdi
-element-copy-out-cdi c = search needs
-
-enum-told : tie.Need-enum-told
-enum-told c = search needs
-
-enum-told-2 : tie.Need-enum-told-2
-enum-told-2 c = search needs
-
 returns : tie.Need-returns
 returns c = simp (c .enum-told .given .1)
 
-returns-2 : tie.Need-returns-2
-returns-2 c = search needs
-
 pub copies-new-to-old-spec : {M : Type 1} → statement M
 copies-new-to-old-spec =
-    tie.close (tie.spec element-copy-out-cdi enum-told enum-told-2 returns returns-2)
+    tie.close (tie.spec (λ c. search needs) (λ c. search needs) (λ c. search needs) returns (λ c. search needs))

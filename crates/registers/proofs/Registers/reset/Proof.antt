@@ -4,12 +4,9 @@ use Rattle.registers.specs.Reset.{resetOf}
 use Rattle.registers.proofs.Registers.reset.Statement.{statement}
 use Rattle.registers.proofs.Registers.reset.Tie as tie
 
-reset-cdi-requires : tie.Need-reset-cdi-requires
-reset-cdi-requires c κs = search needs
-
 returns : tie.Need-returns
 unfolding resetOf
 returns c = simp (c .reset-cdi .ensures)
 
 pub reset-spec : {M : Type 1} → statement M
-reset-spec = tie.close (tie.spec reset-cdi-requires returns)
+reset-spec = tie.close (tie.spec (λ c κs. search needs) returns)

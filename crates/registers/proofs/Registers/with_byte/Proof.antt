@@ -5,24 +5,6 @@ use Rattle.registers.specs.Bytes.{putAt, byteOf}
 use Rattle.registers.proofs.Registers.with_byte.Statement.{statement}
 use Rattle.registers.proofs.Registers.with_byte.Tie as tie
 
-element-write-r : tie.Need-element-write-r
-element-write-r c = search needs
-
-element-write-r-2 : tie.Need-element-write-r-2
-element-write-r-2 c = search needs
-
-element-write-r-3 : tie.Need-element-write-r-3
-element-write-r-3 c = search needs
-
-ten-bits-pair-requires : tie.Need-ten-bits-pair-requires
-ten-bits-pair-requires c κs = search needs
-
-ten-bits-pair-requires-2 : tie.Need-ten-bits-pair-requires-2
-ten-bits-pair-requires-2 c κs = search needs
-
-window-byte-requires : tie.Need-window-byte-requires
-window-byte-requires c κs = search needs
-
 returns : tie.Need-returns
 unfolding byteOf putAt
 returns c = simp (lt-ltb _ _ (c .if1 .taken), c .before .match .keys1)
@@ -84,12 +66,12 @@ pub with-byte-spec : {M : Type 1} → statement M
 with-byte-spec =
     tie.close
     (tie.spec
-    element-write-r
-    element-write-r-2
-    element-write-r-3
-    ten-bits-pair-requires
-    ten-bits-pair-requires-2
-    window-byte-requires
+    (λ c. search needs)
+    (λ c. search needs)
+    (λ c. search needs)
+    (λ c κs. search needs)
+    (λ c κs. search needs)
+    (λ c κs. search needs)
     returns
     returns-2
     returns-3

@@ -8,12 +8,9 @@ returns : tie.Need-returns
 unfolding writtenOf
 returns c = simp (c .before .if1 .taken)
 
-active-requires : tie.Need-active-requires
-active-requires c κs = search needs
-
 returns-2 : tie.Need-returns-2
 unfolding writtenOf
 returns-2 c = simp (c .active .ensures, c .before .if1 .left)
 
 pub written-spec : {M : Type 1} → statement M
-written-spec = tie.close (tie.spec returns active-requires returns-2)
+written-spec = tie.close (tie.spec returns (λ c κs. search needs) returns-2)

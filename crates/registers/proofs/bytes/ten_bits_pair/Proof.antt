@@ -5,18 +5,6 @@ use Rattle.registers.specs.Bytes.{tenBits}
 use Rattle.registers.proofs.bytes.ten_bits_pair.Statement.{statement}
 use Rattle.registers.proofs.bytes.ten_bits_pair.Tie as tie
 
-high-requires : tie.Need-high-requires
-high-requires c κs = search needs
-
-low-column-requires : tie.Need-low-column-requires
-low-column-requires c κs = search needs
-
-high-requires-2 : tie.Need-high-requires-2
-high-requires-2 c κs = search needs
-
-low-requires : tie.Need-low-requires
-low-requires c κs = search needs
-
 returns : tie.Need-returns
 unfolding tenBits
 returns c = simp (c .high .ensures, c .before .match .keys1)
@@ -43,10 +31,10 @@ pub ten-bits-pair-spec : {M : Type 1} → statement M
 ten-bits-pair-spec =
     tie.close
     (tie.spec
-    high-requires
-    low-column-requires
-    high-requires-2
-    low-requires
+    (λ c κs. search needs)
+    (λ c κs. search needs)
+    (λ c κs. search needs)
+    (λ c κs. search needs)
     returns
     returns-2
     returns-3

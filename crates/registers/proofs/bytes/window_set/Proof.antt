@@ -5,33 +5,6 @@ use Rattle.registers.specs.Bytes.{windowSet}
 use Rattle.registers.proofs.bytes.window_set.Statement.{statement}
 use Rattle.registers.proofs.bytes.window_set.Tie as tie
 
-high-requires : tie.Need-high-requires
-high-requires c κs = search needs
-
-low-column-requires : tie.Need-low-column-requires
-low-column-requires c κs = search needs
-
-high-requires-2 : tie.Need-high-requires-2
-high-requires-2 c κs = search needs
-
-low-column-requires-2 : tie.Need-low-column-requires-2
-low-column-requires-2 c κs = search needs
-
-add-next : tie.Need-add-next
-add-next c = search needs
-
-high-requires-3 : tie.Need-high-requires-3
-high-requires-3 c κs = search needs
-
-low-requires : tie.Need-low-requires
-low-requires c κs = search needs
-
-high-requires-4 : tie.Need-high-requires-4
-high-requires-4 c κs = search needs
-
-low-requires-2 : tie.Need-low-requires-2
-low-requires-2 c κs = search needs
-
 returns : tie.Need-returns
 unfolding windowSet
 returns c = simp (c .high .ensures, c .before .match .keys1)
@@ -82,15 +55,15 @@ pub window-set-spec : {M : Type 1} → statement M
 window-set-spec =
     tie.close
     (tie.spec
-    high-requires
-    low-column-requires
-    high-requires-2
-    low-column-requires-2
-    add-next
-    high-requires-3
-    low-requires
-    high-requires-4
-    low-requires-2
+    (λ c κs. search needs)
+    (λ c κs. search needs)
+    (λ c κs. search needs)
+    (λ c κs. search needs)
+    (λ c. search needs)
+    (λ c κs. search needs)
+    (λ c κs. search needs)
+    (λ c κs. search needs)
+    (λ c κs. search needs)
     returns
     returns-2
     returns-3

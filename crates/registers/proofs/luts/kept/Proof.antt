@@ -7,9 +7,6 @@ use borrow.Author.Needs.{needs}
 use Rattle.registers.proofs.luts.kept.Statement.{statement}
 use Rattle.registers.proofs.luts.kept.Tie as tie
 
-array-write-r : tie.Need-array-write-r
-array-write-r c = search needs
-
 returns : tie.Need-returns
 unfolding keptByte
 returns c =
@@ -23,4 +20,4 @@ returns-2 c =
     simp (le-ltb _ _ past)
 
 pub kept-spec : {M : Type 1} → statement M
-kept-spec = tie.close (tie.spec array-write-r returns returns-2)
+kept-spec = tie.close (tie.spec (λ c. search needs) returns returns-2)

@@ -12,24 +12,6 @@ use borrow.Author.Needs.{needs}
 use Rattle.rules.proofs.changes.close.Statement.{statement}
 use Rattle.rules.proofs.changes.close.Tie as tie
 
-enum-told : tie.Need-enum-told
-enum-told c = search needs
-
-enum-told-2 : tie.Need-enum-told-2
-enum-told-2 c = search needs
-
-enum-known-current : tie.Need-enum-known-current
-enum-known-current c = search needs
-
-closing-requires : tie.Need-closing-requires
-closing-requires c κs = search needs
-
-told-requires : tie.Need-told-requires
-told-requires c κs = search needs
-
-with-current-requires : tie.Need-with-current-requires
-with-current-requires c κs = search needs
-
 returns : tie.Need-returns
 unfolding closed
 returns c = λ b. simp (c .enum-told .given .1)
@@ -37,9 +19,6 @@ returns c = λ b. simp (c .enum-told .given .1)
 returns-2 : tie.Need-returns-2
 unfolding closed
 returns-2 c = λ b. simp (c .enum-told2 .given .1)
-
-same-length : tie.Need-same-length
-same-length c = search needs
 
 returns-3 : tie.Need-returns-3
 unfolding closed
@@ -49,13 +28,13 @@ pub close-spec : {M : Type 1} → statement M
 close-spec =
     tie.close
     (tie.spec
-    enum-told
-    enum-told-2
-    enum-known-current
-    closing-requires
-    told-requires
-    with-current-requires
+    (λ c. search needs)
+    (λ c. search needs)
+    (λ c. search needs)
+    (λ c κs. search needs)
+    (λ c κs. search needs)
+    (λ c κs. search needs)
     returns
     returns-2
-    same-length
+    (λ c. search needs)
     returns-3)

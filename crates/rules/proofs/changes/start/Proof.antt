@@ -3,11 +3,8 @@ use borrow.Author.Needs.{needs}
 use Rattle.rules.proofs.changes.start.Statement.{statement}
 use Rattle.rules.proofs.changes.start.Tie as tie
 
-saturating-add-requires : tie.Need-saturating-add-requires
-saturating-add-requires c κs = search needs
-
 returns : tie.Need-returns
 returns c = simp (c .saturating-add .ensures)
 
 pub start-spec : {M : Type 1} → statement M
-start-spec = tie.close (tie.spec saturating-add-requires returns)
+start-spec = tie.close (tie.spec (λ c κs. search needs) returns)

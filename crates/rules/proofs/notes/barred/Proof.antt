@@ -29,29 +29,17 @@ among x h k = in-range (λ j. oneOf taken j ≡ true) [] 0x70 2 x (refl, (refl, 
 vcom : (x : ℕ) → x ≡ 0x81 → oneOf taken x ≡ true
 vcom x e = rw e
 
-in-reset-requires : tie.Need-in-reset-requires
-in-reset-requires c κs = search needs
-
 returns : tie.Need-returns
 unfolding barredNote
 returns c = simp (sym (c .before .in-reset .ensures) ∙ c .if1 .taken)
-
-initialises-requires : tie.Need-initialises-requires
-initialises-requires c κs = search needs
 
 returns-2 : tie.Need-returns-2
 unfolding barredNote
 returns-2 c = simp (sym (c .before .initialises .ensures) ∙ c .if2 .taken, sym (c .before .before .before .in-reset .ensures) ∙ c .before .before .if1 .left)
 
-asleep-requires : tie.Need-asleep-requires
-asleep-requires c κs = search needs
-
 returns-3 : tie.Need-returns-3
 unfolding barredNote
 returns-3 c = simp (sym (c .before .asleep .ensures) ∙ c .if3 .taken, sym (c .before .before .before .initialises .ensures) ∙ c .before .before .if2 .left, sym (c .before .before .before .before .before .in-reset .ensures) ∙ c .before .before .before .before .if1 .left)
-
-busy-requires : tie.Need-busy-requires
-busy-requires c κs = search needs
 
 returns-4 : tie.Need-returns-4
 unfolding barredNote
@@ -77,13 +65,13 @@ pub barred-spec : {M : Type 1} → statement M
 barred-spec =
     tie.close
     (tie.spec
-    in-reset-requires
+    (λ c κs. search needs)
     returns
-    initialises-requires
+    (λ c κs. search needs)
     returns-2
-    asleep-requires
+    (λ c κs. search needs)
     returns-3
-    busy-requires
+    (λ c κs. search needs)
     returns-4
     returns-5
     returns-6

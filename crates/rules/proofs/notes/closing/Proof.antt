@@ -24,9 +24,6 @@ below x h = simp (lt-leb 0x20 x h)
 above : (x : ℕ) → 0x20 ≤ x → 0x25 ≤ x → between 0x20 0x24 x ≡ false
 above x h k = simp (le-leb 0x20 x h, lt-leb x 0x24 (omega arith))
 
-least-count-requires : tie.Need-least-count-requires
-least-count-requires c κs = search needs
-
 returns : tie.Need-returns
 unfolding closingNote
 returns c = yes _ (ap (λ n. ltb (c .before .before .before .args .a .received) n) (sym (c .before .before .least-count .ensures)) ∙ lt-ltb _ _ (c .if1 .taken)) (ap (λ n. Told (MissingData (c .before .before .before .args .a .command) n (c .before .before .before .args .a .received))) (c .before .before .least-count .ensures))
@@ -49,4 +46,4 @@ returns-5 c = no _ (ap (λ n. ltb (c .before .before .before .before .before .ar
 
 pub closing-spec : {M : Type 1} → statement M
 closing-spec =
-    tie.close (tie.spec least-count-requires returns returns-2 returns-3 returns-4 returns-5)
+    tie.close (tie.spec (λ c κs. search needs) returns returns-2 returns-3 returns-4 returns-5)

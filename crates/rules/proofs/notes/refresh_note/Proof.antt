@@ -5,15 +5,6 @@ use borrow.Author.Needs.{needs}
 use Rattle.rules.proofs.notes.refresh_note.Statement.{statement}
 use Rattle.rules.proofs.notes.refresh_note.Tie as tie
 
-psr-reg-requires : tie.Need-psr-reg-requires
-psr-reg-requires c κs = search needs
-
-psr-kw-requires : tie.Need-psr-kw-requires
-psr-kw-requires c κs = search needs
-
-psr-shd-n-requires : tie.Need-psr-shd-n-requires
-psr-shd-n-requires c κs = search needs
-
 returns : tie.Need-returns
 unfolding refreshNote
 returns c = simp (c .if4 .taken, sym (c .before .before .psr-shd-n .ensures) ∙ c .before .if3 .taken, sym (c .before .before .before .before .psr-kw .ensures) ∙ c .before .before .before .if2 .taken, sym (c .before .before .before .before .before .before .psr-reg .ensures) ∙ c .before .before .before .before .before .if1 .taken)
@@ -38,9 +29,9 @@ pub refresh-note-spec : {M : Type 1} → statement M
 refresh-note-spec =
     tie.close
     (tie.spec
-    psr-reg-requires
-    psr-kw-requires
-    psr-shd-n-requires
+    (λ c κs. search needs)
+    (λ c κs. search needs)
+    (λ c κs. search needs)
     returns
     returns-2
     returns-3

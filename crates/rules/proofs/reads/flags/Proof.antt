@@ -14,18 +14,6 @@ use Rattle.rules.proofs.reads.flags.Tie as tie
 at-most : (t : Bool) (a b n : ℕ) {r : ℕ} → r ≡ pick t a b → a ≤ n → b ≤ n → r ≤ n
 at-most t a b n e h k = rw e (both (λ x. x ≤ n) t h k)
 
-busy-at-requires : tie.Need-busy-at-requires
-busy-at-requires c κs = search needs
-
-weight-requires : tie.Need-weight-requires
-weight-requires c κs = search needs
-
-weight-requires-2 : tie.Need-weight-requires-2
-weight-requires-2 c κs = search needs
-
-weight-requires-3 : tie.Need-weight-requires-3
-weight-requires-3 c κs = search needs
-
 add-result : tie.Need-add-result
 add-result c = record { fits = omega (arith, at-most (c .before .before .before .before .before .before .args .p .regs .partial) 64 0 64 (c .before .before .weight .ensures) (search needs) (search needs)) }
 
@@ -34,9 +22,6 @@ add-result-2 c = record { fits = omega (arith, at-most (c .before .before .befor
 
 add-result-3 : tie.Need-add-result-3
 add-result-3 c = record { fits = omega (arith, at-most (c .before .before .before .before .before .before .args .p .regs .partial) 64 0 64 (c .before .before .weight .ensures) (search needs) (search needs), at-most (c .before .before .before .before .before .before .args .p .mode .«data_flag») 8 0 8 (c .before .weight2 .ensures) (search needs) (search needs), at-most (c .before .before .before .before .before .before .args .p .mode .powered) 4 2 4 (c .weight3 .ensures) (search needs) (search needs)) }
-
-weight-requires-4 : tie.Need-weight-requires-4
-weight-requires-4 c κs = search needs
 
 add-result-4 : tie.Need-add-result-4
 add-result-4 c = record { fits = omega (arith, at-most (c .before .before .before .before .before .before .before .args .p .regs .partial) 64 0 64 (c .before .before .before .weight .ensures) (search needs) (search needs), at-most (c .before .before .before .before .before .before .before .args .p .mode .«data_flag») 8 0 8 (c .before .before .weight2 .ensures) (search needs) (search needs), at-most (c .before .before .before .before .before .before .before .args .p .mode .powered) 4 2 4 (c .before .weight3 .ensures) (search needs) (search needs), at-most (c .before .before .before .before .busy-at .result) 0 1 1 (c .weight4 .ensures) (search needs) (search needs)) }
@@ -49,13 +34,13 @@ pub flags-spec : {M : Type 1} → statement M
 flags-spec =
     tie.close
     (tie.spec
-    busy-at-requires
-    weight-requires
-    weight-requires-2
-    weight-requires-3
+    (λ c κs. search needs)
+    (λ c κs. search needs)
+    (λ c κs. search needs)
+    (λ c κs. search needs)
     add-result
     add-result-2
     add-result-3
-    weight-requires-4
+    (λ c κs. search needs)
     add-result-4
     returns)

@@ -18,14 +18,8 @@ returns-3 c = at 2 revision (of-70 _ (c .before .before .before .match .keys1)) 
 returns-4 : tie.Need-returns-4
 returns-4 c = filler _ (of-70 _ (c .before .before .before .before .match .keys1)) (three _ (c .before .before .before .if1 .left) (c .before .before .if2 .left) (c .before .if3 .left)) (c .if4 .taken)
 
-flags-requires : tie.Need-flags-requires
-flags-requires c κs = search needs
-
 returns-5 : tie.Need-returns-5
 returns-5 c = at 0 _ (of-71 _ (c .before .before .match .keys2)) (c .before .if5 .taken) (ap Byte (c .flags .ensures))
-
-weight-requires : tie.Need-weight-requires
-weight-requires c κs = search needs
 
 returns-6 : tie.Need-returns-6
 returns-6 c = at 0 _ (of-11 _ (c .before .before .match .keys3)) (c .before .if6 .taken) (ap Byte (c .weight .ensures))
@@ -59,9 +53,9 @@ uc8279d-byte-spec =
     returns-2
     returns-3
     returns-4
-    flags-requires
+    (λ c κs. search needs)
     returns-5
-    weight-requires
+    (λ c κs. search needs)
     returns-6
     returns-7
     returns-8

@@ -8,15 +8,9 @@ use borrow.Author.Needs.{needs}
 use Rattle.rules.proofs.refused.bad_config.Statement.{statement}
 use Rattle.rules.proofs.refused.bad_config.Tie as tie
 
-validate-requires : tie.Need-validate-requires
-validate-requires c κs = search needs
-
-none-requires : tie.Need-none-requires
-none-requires c κs = search needs
-
 returns : tie.Need-returns
 unfolding badConfig
 returns c = ap not (c .none .ensures ∙ ap (λ (n : ℕ). eqb n 0) (c .before .validate .ensures))
 
 pub bad-config-spec : {M : Type 1} → statement M
-bad-config-spec = tie.close (tie.spec validate-requires none-requires returns)
+bad-config-spec = tie.close (tie.spec (λ c κs. search needs) (λ c κs. search needs) returns)

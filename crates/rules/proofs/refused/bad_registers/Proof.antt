@@ -5,22 +5,13 @@ use borrow.Author.Needs.{needs}
 use Rattle.rules.proofs.refused.bad_registers.Statement.{statement}
 use Rattle.rules.proofs.refused.bad_registers.Tie as tie
 
-bad-area-requires : tie.Need-bad-area-requires
-bad-area-requires c κs = search needs
-
 returns : tie.Need-returns
 unfolding badRegisters
 returns c = simp (sym (c .before .bad-area .ensures) ∙ c .if1 .taken)
 
-bad-pair-requires : tie.Need-bad-pair-requires
-bad-pair-requires c κs = search needs
-
 returns-2 : tie.Need-returns-2
 unfolding badRegisters
 returns-2 c = simp (sym (c .before .bad-pair .ensures) ∙ c .if2 .taken, sym (c .before .before .before .bad-area .ensures) ∙ c .before .before .if1 .left)
-
-bad-pair-requires-2 : tie.Need-bad-pair-requires-2
-bad-pair-requires-2 c κs = search needs
 
 returns-3 : tie.Need-returns-3
 unfolding badRegisters
@@ -29,4 +20,4 @@ returns-3 c = simp (c .bad-pair2 .ensures, sym (c .before .before .bad-pair .ens
 pub bad-registers-spec : {M : Type 1} → statement M
 bad-registers-spec =
     tie.close
-    (tie.spec bad-area-requires returns bad-pair-requires returns-2 bad-pair-requires-2 returns-3)
+    (tie.spec (λ c κs. search needs) returns (λ c κs. search needs) returns-2 (λ c κs. search needs) returns-3)

@@ -4,26 +4,8 @@ use borrow.Author.Needs.{needs}
 use Rattle.rules.proofs.refused.bad_stage.Statement.{statement}
 use Rattle.rules.proofs.refused.bad_stage.Tie as tie
 
-enum-told : tie.Need-enum-told
-enum-told c = search needs
-
-enum-told-2 : tie.Need-enum-told-2
-enum-told-2 c = search needs
-
-enum-known-current : tie.Need-enum-known-current
-enum-known-current c = search needs
-
 returns : tie.Need-returns
 returns c = simp (lt-ltb _ _ (c .if1 .taken), c .before .before .before .current .given .1)
-
-add-result : tie.Need-add-result
-add-result c = search needs
-
-returns-2 : tie.Need-returns-2
-returns-2 c = search needs
-
-returns-3 : tie.Need-returns-3
-returns-3 c = search needs
 
 returns-4 : tie.Need-returns-4
 returns-4 c = simp (le-ltb _ _ (c .before .if1 .left), c .before .before .before .before .current .given .1)
@@ -32,11 +14,11 @@ pub bad-stage-spec : {M : Type 1} → statement M
 bad-stage-spec =
     tie.close
     (tie.spec
-    enum-told
-    enum-told-2
-    enum-known-current
+    (λ c. search needs)
+    (λ c. search needs)
+    (λ c. search needs)
     returns
-    add-result
-    returns-2
-    returns-3
+    (λ c. search needs)
+    (λ c. search needs)
+    (λ c. search needs)
     returns-4)

@@ -5,38 +5,11 @@ use borrow.Author.Needs.{needs}
 use Rattle.rules.proofs.refused.bad_work.Statement.{statement}
 use Rattle.rules.proofs.refused.bad_work.Tie as tie
 
-enum-told : tie.Need-enum-told
-enum-told c = search needs
-
-enum-told-2 : tie.Need-enum-told-2
-enum-told-2 c = search needs
-
-enum-told-3 : tie.Need-enum-told-3
-enum-told-3 c = search needs
-
-enum-told-4 : tie.Need-enum-told-4
-enum-told-4 c = search needs
-
-enum-told-5 : tie.Need-enum-told-5
-enum-told-5 c = search needs
-
-enum-told-6 : tie.Need-enum-told-6
-enum-told-6 c = search needs
-
-enum-known-work : tie.Need-enum-known-work
-enum-known-work c = search needs
-
-bad-area-requires : tie.Need-bad-area-requires
-bad-area-requires c κs = search needs
-
 returns : tie.Need-returns
 returns c = simp (sym (c .before .bad-area .ensures) ∙ c .if1 .taken, c .before .before .before .before .work .given .1)
 
 returns-2 : tie.Need-returns-2
 returns-2 c = simp (eq-eqb _ _ (c .if2 .taken), sym (c .before .before .bad-area .ensures) ∙ c .before .if1 .left, c .before .before .before .before .before .work .given .1)
-
-bad-levels-requires : tie.Need-bad-levels-requires
-bad-levels-requires c κs = search needs
 
 returns-3 : tie.Need-returns-3
 returns-3 c = simp (c .enum-told .given .1)
@@ -63,17 +36,17 @@ pub bad-work-spec : {M : Type 1} → statement M
 bad-work-spec =
     tie.close
     (tie.spec
-    enum-told
-    enum-told-2
-    enum-told-3
-    enum-told-4
-    enum-told-5
-    enum-told-6
-    enum-known-work
-    bad-area-requires
+    (λ c. search needs)
+    (λ c. search needs)
+    (λ c. search needs)
+    (λ c. search needs)
+    (λ c. search needs)
+    (λ c. search needs)
+    (λ c. search needs)
+    (λ c κs. search needs)
     returns
     returns-2
-    bad-levels-requires
+    (λ c κs. search needs)
     returns-3
     returns-4
     returns-5

@@ -8,36 +8,9 @@ use borrow.Author.Needs.{needs}
 use Rattle.rules.proofs.refused.ends_refresh.Statement.{statement}
 use Rattle.rules.proofs.refused.ends_refresh.Tie as tie
 
-enum-told : tie.Need-enum-told
-enum-told c = search needs
-
-enum-told-2 : tie.Need-enum-told-2
-enum-told-2 c = search needs
-
-enum-told-3 : tie.Need-enum-told-3
-enum-told-3 c = search needs
-
-enum-told-4 : tie.Need-enum-told-4
-enum-told-4 c = search needs
-
-enum-told-5 : tie.Need-enum-told-5
-enum-told-5 c = search needs
-
-enum-told-6 : tie.Need-enum-told-6
-enum-told-6 c = search needs
-
-enum-told-7 : tie.Need-enum-told-7
-enum-told-7 c = search needs
-
-greatest-requires : tie.Need-greatest-requires
-greatest-requires c κs = search needs
-
 returns : tie.Need-returns
 unfolding endsRefresh
 returns c = also {a = refreshRuns (c .before .before .before .before .before .before .before .args .p .operation .work)} _ (simp (c .before .before .before .enum-told7 .given .1)) (held _ (ap (leb (c .before .before .before .before .before .before .before .args .p .operation .until)) (sym (c .before .before .greatest .ensures)) ∙ le-leb _ _ (c .if1 .taken)))
-
-cuts-requires : tie.Need-cuts-requires
-cuts-requires c κs = search needs
 
 returns-2 : tie.Need-returns-2
 unfolding endsRefresh
@@ -71,16 +44,16 @@ pub ends-refresh-spec : {M : Type 1} → statement M
 ends-refresh-spec =
     tie.close
     (tie.spec
-    enum-told
-    enum-told-2
-    enum-told-3
-    enum-told-4
-    enum-told-5
-    enum-told-6
-    enum-told-7
-    greatest-requires
+    (λ c. search needs)
+    (λ c. search needs)
+    (λ c. search needs)
+    (λ c. search needs)
+    (λ c. search needs)
+    (λ c. search needs)
+    (λ c. search needs)
+    (λ c κs. search needs)
     returns
-    cuts-requires
+    (λ c κs. search needs)
     returns-2
     returns-3
     returns-4

@@ -6,29 +6,17 @@ use borrow.Author.Needs.{needs}
 use Rattle.rules.proofs.refused.foreign.Statement.{statement}
 use Rattle.rules.proofs.refused.foreign.Tie as tie
 
-bad-config-requires : tie.Need-bad-config-requires
-bad-config-requires c κs = search needs
-
 returns : tie.Need-returns
 unfolding foreignRecord
 returns c = held _ (sym (c .before .bad-config .ensures) ∙ c .if1 .taken)
-
-bad-registers-requires : tie.Need-bad-registers-requires
-bad-registers-requires c κs = search needs
 
 returns-2 : tie.Need-returns-2
 unfolding foreignRecord
 returns-2 c = passed _ (sym (c .before .before .before .before .bad-config .ensures) ∙ c .before .before .before .if1 .left) (held _ (sym (c .before .bad-registers .ensures) ∙ c .if2 .taken))
 
-bad-stage-requires : tie.Need-bad-stage-requires
-bad-stage-requires c κs = search needs
-
 returns-3 : tie.Need-returns-3
 unfolding foreignRecord
 returns-3 c = passed _ (sym (c .before .before .before .before .before .before .before .bad-config .ensures) ∙ c .before .before .before .before .before .before .if1 .left) (passed _ (sym (c .before .before .before .before .bad-registers .ensures) ∙ c .before .before .before .if2 .left) (held _ (sym (c .before .bad-stage .ensures) ∙ c .if3 .taken)))
-
-bad-work-requires : tie.Need-bad-work-requires
-bad-work-requires c κs = search needs
 
 returns-4 : tie.Need-returns-4
 unfolding foreignRecord
@@ -42,12 +30,12 @@ pub foreign-spec : {M : Type 1} → statement M
 foreign-spec =
     tie.close
     (tie.spec
-    bad-config-requires
+    (λ c κs. search needs)
     returns
-    bad-registers-requires
+    (λ c κs. search needs)
     returns-2
-    bad-stage-requires
+    (λ c κs. search needs)
     returns-3
-    bad-work-requires
+    (λ c κs. search needs)
     returns-4
     returns-5)

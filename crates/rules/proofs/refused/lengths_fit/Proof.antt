@@ -12,12 +12,6 @@ use Rattle.rules.proofs.refused.lengths_fit.Tie as tie
 small : (w h : ℕ) → w < 65_536 → h < 65_536 → w * h < 2 ^ 32
 small w h k l = omega (arith, mul-le-mul {n₁ = w} {m₁ = h} {n₂ = 65_535} {m₂ = 65_535} (omega arith) (omega arith))
 
-cast-pixels : tie.Need-cast-pixels
-cast-pixels c = search needs
-
-cast-pixels-2 : tie.Need-cast-pixels-2
-cast-pixels-2 c = search needs
-
 mul-pixels : tie.Need-mul-pixels
 mul-pixels c = record { fits = omega (arith, small (c .before .before .args .config .panel .sources) (c .before .before .args .config .panel .gates) (search needs) (search needs)) }
 
@@ -49,8 +43,8 @@ pub lengths-fit-spec : {M : Type 1} → statement M
 lengths-fit-spec =
     tie.close
     (tie.spec
-    cast-pixels
-    cast-pixels-2
+    (λ c. search needs)
+    (λ c. search needs)
     mul-pixels
     returns
     returns-2

@@ -10,9 +10,6 @@ returns : tie.Need-returns
 unfolding doing
 returns c = simp (ne-eqb _ _ (c .if1 .taken), c .before .match .keys1)
 
-psr-rst-n-requires : tie.Need-psr-rst-n-requires
-psr-rst-n-requires c κs = search needs
-
 returns-2 : tie.Need-returns-2
 unfolding doing
 returns-2 c = simp (sym (c .before .psr-rst-n .ensures) ∙ c .if2 .taken, eq-eqb _ _ (c .before .before .if1 .left), c .before .before .before .match .keys1)
@@ -46,7 +43,7 @@ does-spec =
     tie.close
     (tie.spec
     returns
-    psr-rst-n-requires
+    (λ c κs. search needs)
     returns-2
     returns-3
     returns-4

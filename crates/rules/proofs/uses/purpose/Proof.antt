@@ -6,24 +6,6 @@ use borrow.Author.Needs.{needs}
 use Rattle.rules.proofs.uses.purpose.Statement.{statement}
 use Rattle.rules.proofs.uses.purpose.Tie as tie
 
-takes-requires : tie.Need-takes-requires
-takes-requires c κs = search needs
-
-enum-told : tie.Need-enum-told
-enum-told c = search needs
-
-does-requires : tie.Need-does-requires
-does-requires c κs = search needs
-
-enum-told-2 : tie.Need-enum-told-2
-enum-told-2 c = search needs
-
-enum-told-3 : tie.Need-enum-told-3
-enum-told-3 c = search needs
-
-enum-told-4 : tie.Need-enum-told-4
-enum-told-4 c = search needs
-
 returns : tie.Need-returns
 unfolding purposeOf
 returns c = yes _ (sym (c .before .before .before .before .takes .ensures) ∙ c .before .before .before .if1 .taken) (simp (c .does .ensures, c .before .enum-told .given .1))
@@ -52,12 +34,12 @@ pub purpose-spec : {M : Type 1} → statement M
 purpose-spec =
     tie.close
     (tie.spec
-    takes-requires
-    enum-told
-    does-requires
-    enum-told-2
-    enum-told-3
-    enum-told-4
+    (λ c κs. search needs)
+    (λ c. search needs)
+    (λ c κs. search needs)
+    (λ c. search needs)
+    (λ c. search needs)
+    (λ c. search needs)
     returns
     returns-2
     returns-3

@@ -10,29 +10,11 @@ Inv-loop table s at left₀ t₀ left t = Unit {0}
 abbrev μ-loop : tie.MeasureT-loop
 μ-loop table s at left₀ t₀ left t = left
 
-number-requires : tie.Need-number-requires Inv-loop μ-loop
-number-requires c κs = search needs
-
-least-requires : tie.Need-least-requires Inv-loop μ-loop
-least-requires c κs = search needs
-
 loop-holds : tie.Need-loop-holds Inv-loop μ-loop
 loop-holds c = tt
 
-compare-row-requires : tie.Need-compare-row-requires Inv-loop μ-loop
-compare-row-requires c κs = search needs
-
-sub-left : tie.Need-sub-left Inv-loop μ-loop
-sub-left c = search needs
-
-loop-less : tie.Need-loop-less Inv-loop μ-loop
-loop-less c = search needs
-
 loop-again : tie.Need-loop-again Inv-loop μ-loop
 loop-again c = tt
-
-returns : tie.Need-returns Inv-loop μ-loop
-returns c = search needs
 
 pub compared-spec : {M : Type 1} → statement M
 compared-spec =
@@ -40,11 +22,11 @@ compared-spec =
     (tie.spec
     Inv-loop
     μ-loop
-    number-requires
-    least-requires
+    (λ c κs. search needs)
+    (λ c κs. search needs)
     loop-holds
-    compare-row-requires
-    sub-left
-    loop-less
+    (λ c κs. search needs)
+    (λ c. search needs)
+    (λ c. search needs)
     loop-again
-    returns)
+    (λ c. search needs))

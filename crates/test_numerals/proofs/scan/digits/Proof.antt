@@ -23,22 +23,10 @@ loop-holds c = refl
 shared-slice-read-b : tie.Need-shared-slice-read-b Inv-loop μ-loop
 shared-slice-read-b c = omega arith
 
-digit-requires : tie.Need-digit-requires Inv-loop μ-loop
-digit-requires c κs = search needs
-
 returns : tie.Need-returns Inv-loop μ-loop
 returns c =
     let at = c .before .before .before .before in
     sym (at .loop .inv ∙ taken-other _ (at .before .before .args .s .now) (at .loop .i) (omega arith) (sym (c .before .digit .ensures) ∙ not-true _ (c .if1 .taken)))
-
-saturating-mul-requires : tie.Need-saturating-mul-requires Inv-loop μ-loop
-saturating-mul-requires c κs = search needs
-
-figure-requires : tie.Need-figure-requires Inv-loop μ-loop
-figure-requires c κs = search needs
-
-saturating-add-requires : tie.Need-saturating-add-requires Inv-loop μ-loop
-saturating-add-requires c κs = search needs
 
 add-i : tie.Need-add-i Inv-loop μ-loop
 add-i c = omega arith
@@ -67,11 +55,11 @@ digits-spec =
     μ-loop
     loop-holds
     shared-slice-read-b
-    digit-requires
+    (λ c κs. search needs)
     returns
-    saturating-mul-requires
-    figure-requires
-    saturating-add-requires
+    (λ c κs. search needs)
+    (λ c κs. search needs)
+    (λ c κs. search needs)
     add-i
     loop-less
     loop-again

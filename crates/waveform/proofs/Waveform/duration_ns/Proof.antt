@@ -18,31 +18,10 @@ Inv-loop self tables frames₀ k₀ frames k =
 abbrev μ-loop : tie.MeasureT-loop
 μ-loop self tables frames₀ k₀ frames k = 5 - k
 
-tables-requires : tie.Need-tables-requires Inv-loop μ-loop
-tables-requires c κs = search needs
-
 loop-holds : tie.Need-loop-holds Inv-loop μ-loop
 loop-holds c =
     let five : length (c .before .args .self .tables) ≡ 5 = search (needs, length-mapped) in
     (search needs, search needs, search needs, ap length (c .tables .ensures) ∙ five)
-
-mul-table-frames : tie.Need-mul-table-frames Inv-loop μ-loop
-mul-table-frames c = search needs
-
-array-copy-out-table-frames : tie.Need-array-copy-out-table-frames Inv-loop μ-loop
-array-copy-out-table-frames c = search needs
-
-table-frames-requires : tie.Need-table-frames-requires Inv-loop μ-loop
-table-frames-requires c κs = search needs
-
-greatest-requires : tie.Need-greatest-requires Inv-loop μ-loop
-greatest-requires c κs = search needs
-
-add-k : tie.Need-add-k Inv-loop μ-loop
-add-k c = search needs
-
-loop-less : tie.Need-loop-less Inv-loop μ-loop
-loop-less c = search needs
 
 loop-again : tie.Need-loop-again Inv-loop μ-loop
 loop-again c =
@@ -50,12 +29,6 @@ loop-again c =
     let ts = c .before .before .before .before .before .tables .result in
     let more = longest-more ts (l .k) (omega arith) in
     (omega (arith, l .inv .0, more, c .greatest .ensures, c .before .table-frames .ensures .0), omega arith, omega arith, l .inv .3)
-
-add-saturating-mul : tie.Need-add-saturating-mul Inv-loop μ-loop
-add-saturating-mul c = search needs
-
-saturating-mul-requires : tie.Need-saturating-mul-requires Inv-loop μ-loop
-saturating-mul-requires c κs = search needs
 
 returns : tie.Need-returns Inv-loop μ-loop
 returns c =
@@ -71,15 +44,15 @@ duration-ns-spec =
     (tie.spec
     Inv-loop
     μ-loop
-    tables-requires
+    (λ c κs. search needs)
     loop-holds
-    mul-table-frames
-    array-copy-out-table-frames
-    table-frames-requires
-    greatest-requires
-    add-k
-    loop-less
+    (λ c. search needs)
+    (λ c. search needs)
+    (λ c κs. search needs)
+    (λ c κs. search needs)
+    (λ c. search needs)
+    (λ c. search needs)
     loop-again
-    add-saturating-mul
-    saturating-mul-requires
+    (λ c. search needs)
+    (λ c κs. search needs)
     returns)

@@ -3,14 +3,8 @@ use borrow.Author.Needs.{needs}
 use Rattle.waveform.proofs.Waveform.new.Statement.{statement}
 use Rattle.waveform.proofs.Waveform.new.Tie as tie
 
-decode-requires : tie.Need-decode-requires
-decode-requires c κs = search needs
-
-of-requires : tie.Need-of-requires
-of-requires c κs = search needs
-
 returns : tie.Need-returns
 returns c = simp (c .before .decode .ensures, c .of .ensures)
 
 pub new-spec : {M : Type 1} → statement M
-new-spec = tie.close (tie.spec decode-requires of-requires returns)
+new-spec = tie.close (tie.spec (λ c κs. search needs) (λ c κs. search needs) returns)

@@ -17,30 +17,12 @@ use borrow.Author.Needs.{needs}
 use Rattle.waveform.proofs.Waveform.transfer.Statement.{statement}
 use Rattle.waveform.proofs.Waveform.transfer.Tie as tie
 
-identity-requires : tie.Need-identity-requires
-identity-requires c κs = search needs
-
 returns : tie.Need-returns
 returns c =
     let s = c .before .before in
     let five : length (s .args .self .tables) ≡ 5 = search (needs, length-mapped) in
     rw (c .identity .ensures, frames-none (s .args .self) (s .args .positive-drives-black) (s .args .lut) (omega arith))
     (acts-identity (s .args .swing))
-
-tables-requires : tie.Need-tables-requires
-tables-requires c κs = search needs
-
-mul-table-frames : tie.Need-mul-table-frames
-mul-table-frames c = search needs
-
-array-copy-out-table-frames : tie.Need-array-copy-out-table-frames
-array-copy-out-table-frames c = search needs
-
-table-frames-requires : tie.Need-table-frames-requires
-table-frames-requires c κs = search needs
-
-transfer-first-requires : tie.Need-transfer-first-requires
-transfer-first-requires c κs = search needs
 
 returns-2 : tie.Need-returns-2
 returns-2 c =
@@ -63,11 +45,11 @@ pub transfer-spec : {M : Type 1} → statement M
 transfer-spec =
     tie.close
     (tie.spec
-    identity-requires
+    (λ c κs. search needs)
     returns
-    tables-requires
-    mul-table-frames
-    array-copy-out-table-frames
-    table-frames-requires
-    transfer-first-requires
+    (λ c κs. search needs)
+    (λ c. search needs)
+    (λ c. search needs)
+    (λ c κs. search needs)
+    (λ c κs. search needs)
     returns-2)

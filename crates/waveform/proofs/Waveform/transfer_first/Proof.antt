@@ -16,9 +16,6 @@ use borrow.Author.Needs.{needs}
 use Rattle.waveform.proofs.Waveform.transfer_first.Statement.{statement}
 use Rattle.waveform.proofs.Waveform.transfer_first.Tie as tie
 
-identity-requires : tie.Need-identity-requires
-identity-requires c κs = search needs
-
 returns : tie.Need-returns
 returns c =
     let s = c .before .before in
@@ -28,21 +25,6 @@ returns c =
       frames-none (s .args .self) (s .args .positive-drives-black) (s .args .lut) (omega arith),
       take-nil {A = ℤ} (s .args .n),
     ) (acts-identity (s .args .swing))
-
-tables-requires : tie.Need-tables-requires
-tables-requires c κs = search needs
-
-mul-drive-table : tie.Need-mul-drive-table
-mul-drive-table c = search needs
-
-array-copy-out-drive-table : tie.Need-array-copy-out-drive-table
-array-copy-out-drive-table c = search needs
-
-array-copy-out-drive-table-2 : tie.Need-array-copy-out-drive-table-2
-array-copy-out-drive-table-2 c = search needs
-
-drive-table-requires : tie.Need-drive-table-requires
-drive-table-requires c κs = search needs
 
 returns-2 : tie.Need-returns-2
 returns-2 c =
@@ -55,11 +37,11 @@ pub transfer-first-spec : {M : Type 1} → statement M
 transfer-first-spec =
     tie.close
     (tie.spec
-    identity-requires
+    (λ c κs. search needs)
     returns
-    tables-requires
-    mul-drive-table
-    array-copy-out-drive-table
-    array-copy-out-drive-table-2
-    drive-table-requires
+    (λ c κs. search needs)
+    (λ c. search needs)
+    (λ c. search needs)
+    (λ c. search needs)
+    (λ c κs. search needs)
     returns-2)

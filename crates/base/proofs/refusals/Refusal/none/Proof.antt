@@ -6,11 +6,8 @@ use borrow.Author.Needs.{needs}
 use Rattle.base.proofs.refusals.Refusal.none.Statement.{statement}
 use Rattle.base.proofs.refusals.Refusal.none.Tie as tie
 
-number-requires : tie.Need-number-requires
-number-requires c κs = search needs
-
 returns : tie.Need-returns
 returns c = ap (λ (n : ℕ). eqb n 0) (c .number .ensures)
 
 pub none-spec : {M : Type 1} → statement M
-none-spec = tie.close (tie.spec number-requires returns)
+none-spec = tie.close (tie.spec (λ c κs. search needs) returns)

@@ -4,12 +4,9 @@ use borrow.Author.Needs.{needs}
 use Rattle.registers.proofs.luts.Luts.reset.Statement.{statement}
 use Rattle.registers.proofs.luts.Luts.reset.Tie as tie
 
-of-requires : tie.Need-of-requires
-of-requires c κs = search needs
-
 returns : tie.Need-returns
 unfolding resetLuts
 returns c = search needs
 
 pub reset-spec : {M : Type 1} → statement M
-reset-spec = tie.close (tie.spec of-requires returns)
+reset-spec = tie.close (tie.spec (λ c κs. search needs) returns)

@@ -7,30 +7,6 @@ use borrow.Author.Needs.{needs}
 use Rattle.registers.proofs.luts.Luts.with_byte.Statement.{statement}
 use Rattle.registers.proofs.luts.Luts.with_byte.Tie as tie
 
-cast-k : tie.Need-cast-k
-cast-k c = search needs
-
-bytes-requires : tie.Need-bytes-requires
-bytes-requires c κs = search needs
-
-mul-kept : tie.Need-mul-kept
-mul-kept c = search needs
-
-array-copy-out-kept : tie.Need-array-copy-out-kept
-array-copy-out-kept c = search needs
-
-kept-requires : tie.Need-kept-requires
-kept-requires c κs = search needs
-
-mul-b : tie.Need-mul-b
-mul-b c = search needs
-
-array-set-from-b : tie.Need-array-set-from-b
-array-set-from-b c = search needs
-
-of-requires : tie.Need-of-requires
-of-requires c κs = search needs
-
 returns : tie.Need-returns
 unfolding lutByteOf
 returns c =
@@ -57,14 +33,14 @@ pub with-byte-spec : {M : Type 1} → statement M
 with-byte-spec =
     tie.close
     (tie.spec
-    cast-k
-    bytes-requires
-    mul-kept
-    array-copy-out-kept
-    kept-requires
-    mul-b
-    array-set-from-b
-    of-requires
+    (λ c. search needs)
+    (λ c κs. search needs)
+    (λ c. search needs)
+    (λ c. search needs)
+    (λ c κs. search needs)
+    (λ c. search needs)
+    (λ c. search needs)
+    (λ c κs. search needs)
     returns
     returns-2
     returns-3)
