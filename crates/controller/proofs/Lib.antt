@@ -4,4 +4,6 @@ pub mod Glass
 pub mod Sound
 pub mod Ends
 pub mod TurnedAway
+pub mod Meanwhile
 pub mod SoftReset
+pub mod OneFault

@@ -9,6 +9,7 @@ use lib.Dec.{leb}
 use borrow.Author.Tests.{le-ltb}
 use Rattle.base.proofs.Cases.{both}
 use Rattle.registers.specs.Flags.{bitSet}
+use Rattle.command.specs.declared.kinds.Kind.{Kind}
 use Rattle.command.specs.declared.kinds.Kind.the-variants as kind
 use Rattle.command.specs.declared.kinds.Params.the-variants as params
 use Rattle.command.specs.Kinds.{kindOf}
@@ -23,12 +24,9 @@ use Rattle.controller.specs.World.{World, onChip}
 use Rattle.controller.specs.Setters.{withNow, withOperation, withCurrent}
 use Rattle.controller.specs.Arrives.{rest, timed, endedBy, ended, arrived}
 use Rattle.controller.specs.Command.{closingNote, ignoring, closedBy, closed}
+use Rattle.controller.specs.Reading as rule
 use Rattle.controller.specs.DataByte.{moreOf, softOf, doing, purposeOf, under, softReset, usedBy, givenBy, dataByte}
-
--- data bytes one after the other, each at its time: what has come to its end ends first
-abbrev pub laterBytes : List (ℕ × ℕ) → World → World
-laterBytes [] w = w
-laterBytes (d ∷ ds) w = laterBytes ds (dataByte (d .1) (arrived (d .0) w))
+use Rattle.controller.proofs.Meanwhile.{Meanwhile, datum, reading, advance, cameAll}
 
 -- all but the clock, the command under way and what runs: the diagnostics, stored and dropped, and their rows are in it
 abbrev pub besides : World → World
@@ -110,16 +108,32 @@ close-is : (a : Active) (w : World) → SpentIn a w → closed w ≡ ignoring w
 unfolding closed closingNote
 close-is a w s = ap (λ (c : Current). closedBy c w) (s .is) ∙ rw (s .one, le-ltb (a .received) 1 (s .had), s .zero)
 
-later : (ds : List (ℕ × ℕ)) (a : Active) (w : World) → SpentIn a w → (t : ℕ)
-    → (besides (laterBytes ds w) ≡ besides w) × (besides (closed (arrived t (laterBytes ds w))) ≡ besides w)
+-- a read under 00 changes nothing
+in-read : (a : Active) (w : World) → SpentIn a w → rule.reading w ≡ w
+unfolding rule.reading
+in-read a w s = ap (λ (c : Current). rule.readingBy c w) (s .is) ∙ ap (λ (k : Kind). rule.afterRead k a w) (s .one)
+
+later : (xs : List Meanwhile) (a : Active) (w : World) → SpentIn a w → (t : ℕ)
+    → (besides (cameAll xs w) ≡ besides w) × (besides (closed (arrived t (cameAll xs w))) ≡ besides w)
 later [] a w s t =
     let on = in-time t a w s in
     (refl, ap besides (close-is a (arrived t w) (on .spent)) ∙ on .left)
-later (d ∷ ds) a w s t =
-    let on = in-time (d .0) a w s in
-    let byte = in-byte (d .1) a (arrived (d .0) w) (on .spent) in
-    let more = later ds (moreOf a) (dataByte (d .1) (arrived (d .0) w)) (byte .spent) t in
+later (datum u b ∷ xs) a w s t =
+    let on = in-time u a w s in
+    let byte = in-byte b a (arrived u w) (on .spent) in
+    let more = later xs (moreOf a) (dataByte b (arrived u w)) (byte .spent) t in
     (more .0 ∙ byte .left ∙ on .left, more .1 ∙ byte .left ∙ on .left)
+later (reading u ∷ xs) a w s t =
+    let on = in-time u a w s in
+    let e = in-read a (arrived u w) (on .spent) in
+    let more = later xs a (arrived u w) (on .spent) t in (
+      ap (λ (v : World). besides (cameAll xs v)) e ∙ more .0 ∙ on .left,
+      ap (λ (v : World). besides (closed (arrived t (cameAll xs v)))) e ∙ more .1 ∙ on .left,
+    )
+later (advance u ∷ xs) a w s t =
+    let on = in-time u a w s in
+    let more = later xs a (arrived u w) (on .spent) t in
+    (more .0 ∙ on .left, more .1 ∙ on .left)
 
 -- ---- the first byte of 00, with bit 0 clear
 module _ (a : Active) (b : ℕ) (w : World) (is : w .chip .stage .current ≡ current.Active a) (zero : a .command ≡ 0x00)
@@ -141,10 +155,10 @@ module _ (a : Active) (b : ℕ) (w : World) (is : w .chip .stage .current ≡ cu
   pub soft-silent : (dataByte b w .chip .log ≡ w .chip .log) × (dataByte b w .lent ≡ w .lent)
   soft-silent = (ap (λ (v : World). v .chip .log) soft-is, ap (λ (v : World). v .lent) soft-is)
 
-  -- no later byte of the command tells or changes anything (no kind 4, no register, no pixel)
-  pub soft-later : (ds : List (ℕ × ℕ)) → besides (laterBytes ds (dataByte b w)) ≡ besides (dataByte b w)
-  soft-later ds = later ds _ (dataByte b w) spent 0 .0
+  -- no later byte of the command tells or changes anything (no kind 4, no register, no pixel), nor does a read
+  pub soft-later : (xs : List Meanwhile) → besides (cameAll xs (dataByte b w)) ≡ besides (dataByte b w)
+  soft-later xs = later xs _ (dataByte b w) spent 0 .0
 
   -- nor does its end, whenever that comes (no kind 5)
-  pub soft-closed : (ds : List (ℕ × ℕ)) (t : ℕ) → besides (closed (arrived t (laterBytes ds (dataByte b w)))) ≡ besides (dataByte b w)
-  soft-closed ds t = later ds _ (dataByte b w) spent t .1
+  pub soft-closed : (xs : List Meanwhile) (t : ℕ) → besides (closed (arrived t (cameAll xs (dataByte b w)))) ≡ besides (dataByte b w)
+  soft-closed xs t = later xs _ (dataByte b w) spent t .1

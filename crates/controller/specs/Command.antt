@@ -27,11 +27,13 @@ use Rattle.controller.specs.Tell.{tell, told}
 use Rattle.controller.specs.Arrives.{starting}
 use Rattle.controller.specs.Refresh.{refreshed}
 
--- kind 5 below its least count, else kind 13 for 20 to 24 unless 42 bytes came
+-- kind 5 below its least count, else kind 13 for 20 to 24 unless 42 bytes came. The extra-byte rule comes first (2026-02): kind 13 is
+-- left out where kind 4 was stored or dropped for the same command
 unfoldable pub closingNote : Active → Note
 closingNote a =
     pick (ltb (a .received) (leastCount (a .kind))) (Told (MissingData (a .command) (leastCount (a .kind)) (a .received)))
-    (pick (between 0x20 0x24 (a .command)) (pick (eqb (a .received) 42) Quiet (Told (LutLength (a .command) (a .received))))
+    (pick (between 0x20 0x24 (a .command))
+    (pick (a .«extra_reported») Quiet (pick (eqb (a .received) 42) Quiet (Told (LutLength (a .command) (a .received)))))
     Quiet)
 
 abbrev pub ignoring : World → World

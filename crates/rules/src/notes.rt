@@ -26,7 +26,7 @@ use registers::psr_shd_n;
 const LUT_BYTES: u16 = 42;
 
 // The command under way ends: too few parameters are reported, else a LUT of another length than KW
-// mode reads.
+// mode reads, unless its extra bytes were reported already.
 pub fn closing(a: Active) -> Note
     ensures { λ r. ⌜ r ≡ rule.closingNote a ⌝ }
 {
@@ -42,6 +42,9 @@ pub fn closing(a: Active) -> Note
     let command = a.command;
     match command {
         LUTC..=LUTKK => {
+            if a.extra_reported {
+                return Note::Quiet;
+            }
             if a.received != LUT_BYTES {
                 return Note::Told(DiagnosticKind::LutLength {
                     command: a.command,

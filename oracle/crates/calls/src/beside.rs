@@ -4,10 +4,11 @@ use chips::lines::ONE_GIGAHERTZ;
 use chips::uc8253::{PanelImage, RefreshKind, Uc8253};
 use emu_core::{Cycles, Level};
 use oracle::capture::{Capture, Configuration, Event};
+use oracle::log::Log;
 use oracle::refusal::Refusal;
 use oracle::rows::{self, KIND_WORDS};
 use oracle::run;
-use ours::{HandedImage, MOST_ROWS, NO_READ, NOTHING, Ours, Refused};
+use ours::{HandedImage, NO_READ, NOTHING, Ours, Refused};
 
 use crate::difference::{Difference, same};
 use crate::memory::{self, Seen};
@@ -33,7 +34,7 @@ pub struct Beside {
     /// which `rust` hands out only where its own rows are taken.
     emptied: Uc8253,
     /// The rows that must be stored, and how many of them have been compared.
-    rows: Vec<[u64; 5]>,
+    pub log: Log,
     compared: usize,
     /// Rows so far, by kind, stored or not.
     pub reported: [u64; KIND_WORDS.len()],
@@ -124,7 +125,7 @@ impl Beside {
             ours,
             rust,
             emptied: chip(configuration).expect("made once already"),
-            rows: Vec::new(),
+            log: Log::default(),
             compared: 0,
             reported: [0; KIND_WORDS.len()],
             seen: Seen::at_making(),
@@ -150,9 +151,7 @@ impl Beside {
         for diagnostic in self.emptied.take_diagnostics() {
             let row = rows::numbers(&diagnostic);
             self.reported[row[1] as usize - 1] += 1;
-            if self.rows.len() < MOST_ROWS {
-                self.rows.push(row);
-            }
+            self.log.add(row);
         }
         answer_number(run::step(&mut self.rust, event))
     }
@@ -184,14 +183,13 @@ impl Beside {
     /// Takes the rows of both.
     pub fn take(&mut self) -> Result<(), Difference> {
         let given = self.ours.take()?;
-        let taken: Vec<_> = self
-            .rust
-            .take_diagnostics()
-            .iter()
-            .map(rows::numbers)
-            .collect();
+        let own = self.rust.take_diagnostics();
+        let taken = self.log.take();
+        if self.log.left_out == 0 {
+            let own: Vec<_> = own.iter().map(rows::numbers).collect();
+            same("the Rust's own rows", &taken, &own)?;
+        }
         same("rows taken", given, taken)?;
-        self.rows.clear();
         self.compared = 0;
         self.compare_rows()
     }
@@ -241,17 +239,18 @@ impl Beside {
         same(
             "stored rows",
             usize::from(self.ours.stored()),
-            self.rows.len(),
+            self.log.stored.len(),
         )?;
-        for row in self.compared..self.rows.len() {
-            same("row", (row, self.ours.row(row)), (row, self.rows[row]))?;
+        for row in self.compared..self.log.stored.len() {
+            let must = self.log.stored[row];
+            same("row", (row, self.ours.row(row)), (row, must))?;
         }
-        self.compared = self.rows.len();
-        same(
-            "dropped rows",
-            self.ours.dropped(),
-            self.rust.dropped_diagnostics(),
-        )
+        self.compared = self.log.stored.len();
+        if self.log.left_out == 0 {
+            let own = self.rust.dropped_diagnostics();
+            same("the Rust's own dropped rows", self.log.dropped, own)?;
+        }
+        same("dropped rows", self.ours.dropped(), self.log.dropped)
     }
 
     fn compare_picture(&self) -> Result<(), Difference> {

@@ -7,8 +7,9 @@ use std::path::Path;
 
 use chips::uc8253::Uc8253;
 use oracle::capture::{Capture, Event, MOST_EVENTS};
+use oracle::log::Log;
 use oracle::run;
-use ours::{MOST_ROWS, Plane};
+use ours::Plane;
 
 use crate::beside::{answer_number, deadline, is_low};
 use crate::memory::plane_bytes;
@@ -34,17 +35,13 @@ pub fn digest(planes: [&[u8]; 2]) -> u32 {
 struct Counted {
     chip: Uc8253,
     emptied: Uc8253,
-    reported: usize,
+    log: Log,
 }
 
 impl Counted {
-    fn stored(&self) -> u16 {
-        self.reported.min(MOST_ROWS) as u16
-    }
-
     fn meet(&mut self, event: Event) -> u16 {
         run::step(&mut self.emptied, event);
-        self.reported += self.emptied.take_diagnostics().len();
+        self.log.add_from(&mut self.emptied);
         answer_number(run::step(&mut self.chip, event))
     }
 
@@ -61,8 +58,8 @@ impl Counted {
         bytes.push(u8::from(is_low(chip, event.time)));
         bytes.push(u8::from(end.is_some()));
         bytes.extend(end.unwrap_or(0).to_le_bytes());
-        bytes.extend(self.stored().to_le_bytes());
-        bytes.extend((chip.dropped_diagnostics() as u16).to_le_bytes());
+        bytes.extend((self.log.stored.len() as u16).to_le_bytes());
+        bytes.extend((self.log.dropped as u16).to_le_bytes());
         bytes.extend((chip.panel_image().generation as u32).to_le_bytes());
         let digest = if digested {
             digest(planes.each_ref().map(|plane| &plane[..]))
@@ -85,7 +82,7 @@ fn trace(capture: &Capture) -> Vec<u8> {
     let mut chips = Counted {
         chip: accepted(),
         emptied: accepted(),
-        reported: 0,
+        log: Log::default(),
     };
     let mut bytes = (file.len() as u32).to_le_bytes().to_vec();
     bytes.extend(&file);

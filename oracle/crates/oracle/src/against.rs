@@ -44,6 +44,8 @@ pub struct Comparison<'a> {
     program: &'a Path,
     equal: u64,
     refused: u64,
+    /// Captures of which a row of the Rust's is left out.
+    left_out: u64,
 }
 
 impl Comparison<'_> {
@@ -52,16 +54,19 @@ impl Comparison<'_> {
             program,
             equal: 0,
             refused: 0,
+            left_out: 0,
         }
     }
 
     /// Whether the two outputs of a capture are equal; what differs is kept.
     fn holds(&mut self, name: &str, capture: &[u8]) -> io::Result<bool> {
-        let rust = run::run(capture).into_bytes();
+        let judged = run::judge(capture);
+        let rust = judged.text.into_bytes();
         let ours = panel(self.program, capture);
         if ours.as_ref().is_ok_and(|ours| *ours == rust) {
             self.equal += 1;
-            self.refused += u64::from(rust.starts_with(b"refused"));
+            self.refused += u64::from(judged.is_refused);
+            self.left_out += u64::from(judged.left_out > 0);
             return Ok(true);
         }
         let kept = Path::new("difference");
@@ -84,8 +89,8 @@ impl Comparison<'_> {
 
     fn total(&self, different: u64) {
         println!(
-            "{} equal ({} of them refused), {different} different",
-            self.equal, self.refused
+            "{} equal ({} of them refused, {} with a row left out), {different} different",
+            self.equal, self.refused, self.left_out
         );
     }
 

@@ -8,6 +8,7 @@ pub mod cases;
 pub mod generate;
 mod glass;
 pub mod list;
+pub mod log;
 mod names;
 pub mod picture;
 pub mod planes;

@@ -7,6 +7,7 @@ use chips::uc8253::{PanelImage, RefreshKind, Uc8253};
 use emu_core::Cycles;
 
 use crate::capture::{self, Capture, Configuration, Event};
+use crate::log::Log;
 use crate::refusal::Refusal;
 use crate::rows;
 
@@ -49,8 +50,7 @@ pub fn step(chip: &mut Uc8253, event: Event) -> Answer {
 pub struct Outcome {
     /// The event's time and its byte, for each read.
     pub reads: Vec<(u64, Option<u8>)>,
-    pub rows: Vec<[u64; 5]>,
-    pub dropped: u64,
+    pub log: Log,
     pub image: PanelImage,
 }
 
@@ -61,17 +61,30 @@ pub fn events(
     mut watch: impl FnMut(usize, Event, &Uc8253),
 ) -> Outcome {
     let mut reads = Vec::new();
+    let mut log = Log::default();
     for (index, &event) in events.iter().enumerate() {
         if let Some(byte) = step(&mut chip, event) {
             reads.push((event.time, byte));
         }
+        log.add_from(&mut chip);
         watch(index, event, &chip);
     }
     Outcome {
         reads,
-        dropped: chip.dropped_diagnostics(),
-        rows: chip.take_diagnostics().iter().map(rows::numbers).collect(),
+        log,
         image: chip.panel_image().clone(),
+    }
+}
+
+/// The log as the Rust itself keeps it, with no row left out.
+pub fn own_log(mut chip: Uc8253, events: &[Event]) -> Log {
+    for &event in events {
+        step(&mut chip, event);
+    }
+    Log {
+        dropped: chip.dropped_diagnostics(),
+        stored: chip.take_diagnostics().iter().map(rows::numbers).collect(),
+        left_out: 0,
     }
 }
 
@@ -113,10 +126,10 @@ pub fn report(outcome: &Outcome) -> String {
         let byte = byte.map_or("none".to_string(), |byte| byte.to_string());
         let _ = writeln!(text, "read {time} {byte}");
     }
-    for row in &outcome.rows {
+    for row in &outcome.log.stored {
         let _ = writeln!(text, "diag {}", words(*row));
     }
-    let _ = writeln!(text, "dropped {}", outcome.dropped);
+    let _ = writeln!(text, "dropped {}", outcome.log.dropped);
     text + &picture(&outcome.image)
 }
 
@@ -125,10 +138,41 @@ pub fn refused(refusal: Refusal) -> String {
     format!("refused {}\n", refusal.number())
 }
 
-/// Exactly what document 01's program prints for `file`.
-pub fn run(file: &[u8]) -> String {
-    match accept(file) {
-        Err(refusal) => refused(refusal),
-        Ok((capture, chip)) => report(&events(chip, &capture.events, |_, _, _| ())),
+/// What the program prints for a file, and what the Rust's list lost on the way.
+pub struct Judged {
+    pub text: String,
+    pub is_refused: bool,
+    pub left_out: u64,
+}
+
+/// A log of which no row is left out is the Rust's own, also where rows are dropped.
+fn hold_to_own(file: &[u8], log: &Log) {
+    if log.left_out == 0 && log.dropped > 0 {
+        let (capture, chip) = accept(file).ok().expect("it was accepted");
+        assert_eq!(own_log(chip, &capture.events), *log);
     }
+}
+
+pub fn judge(file: &[u8]) -> Judged {
+    match accept(file) {
+        Err(refusal) => Judged {
+            text: refused(refusal),
+            is_refused: true,
+            left_out: 0,
+        },
+        Ok((capture, chip)) => {
+            let outcome = events(chip, &capture.events, |_, _, _| ());
+            hold_to_own(file, &outcome.log);
+            Judged {
+                text: report(&outcome),
+                is_refused: false,
+                left_out: outcome.log.left_out,
+            }
+        }
+    }
+}
+
+/// Exactly what the program prints for `file`.
+pub fn run(file: &[u8]) -> String {
+    judge(file).text
 }

@@ -95,9 +95,9 @@ fn add_capture(tally: &mut Tally, seed: u64) {
     tally.events += capture.events.len() as u64;
     tally.pixels += capture.configuration.pixels();
     let outcome = run::events(chip, &capture.events, |_, _, _| ());
-    tally.add_rows(&outcome.rows);
-    tally.dropped += outcome.dropped;
-    tally.captures_with_dropped += u64::from(outcome.dropped != 0);
+    tally.add_rows(&outcome.log.stored);
+    tally.dropped += outcome.log.dropped;
+    tally.captures_with_dropped += u64::from(outcome.log.dropped != 0);
     tally.add_facts(watch::facts(&capture));
 }
 

@@ -21,6 +21,57 @@ fn loaded(count: usize) -> Script {
         .advance()
 }
 
+/// Loads at 100, 200, .. 600, each closed by the next; 92 closes the last at 700.
+fn lengths() -> Script {
+    let loads = [
+        (0x20, 41),
+        (0x21, 42),
+        (0x22, 43),
+        (0x23, 60),
+        (0x24, 61),
+        (0x24, 300),
+    ];
+    loads
+        .iter()
+        .zip(1..)
+        .fold(
+            Script::new(example_panel()).power_up(),
+            |script, (&(command, count), hundreds)| {
+                script.at(100 * hundreds).command(command, &table(count))
+            },
+        )
+        .at(700)
+        .command(0x92, &[])
+}
+
+/// Kind 13 comes at the close, kind 4 at the byte: of 61 and 300 bytes kind 4 alone.
+const LENGTHS_OUTPUT: &str = "\
+diag 200 13 32 41 0
+diag 400 13 34 43 0
+diag 500 13 35 60 0
+diag 500 4 36 0 0
+diag 600 4 36 0 0
+dropped 0
+image 8 1 0 poweron 0 0 0
+0 0 0 0 0 0 0 0
+";
+
+/// 1,024 unknown commands, and then a load of 61 bytes and one of 43, which 92 closes.
+fn log_full() -> Script {
+    let full = (0..1_024).fold(Script::new(example_panel()), |script, _| {
+        script.command(0xFF, &[])
+    });
+    full.power_up()
+        .command(0x24, &table(61))
+        .command(0x22, &table(43))
+        .command(0x92, &[])
+}
+
+/// Dropped: kind 4 of the first load, kind 13 of the second.
+fn log_full_output() -> String {
+    "diag 0 1 255 0 0\n".repeat(1_024) + "dropped 2\nimage 8 1 0 poweron 0 0 0\n0 0 0 0 0 0 0 0\n"
+}
+
 pub fn cases() -> Vec<Case> {
     let mut cases = tables();
     cases.extend(clocks());
@@ -39,9 +90,21 @@ fn tables() -> Vec<Case> {
         ),
         Case::new(
             "table-61-bytes",
-            "a table load of 61 bytes: kind 4 for the extra byte, kind 13 on closing",
+            "a table load of 61 bytes: kind 4 for the extra byte, no kind 13 on closing",
             loaded(61),
         ),
+        Case::new(
+            "table-lengths",
+            "table loads of 41, 42, 43, 60, 61 and 300 bytes: one row for each fault; worked by hand",
+            lengths(),
+        )
+        .worked(LENGTHS_OUTPUT),
+        Case::new(
+            "table-log-full",
+            "loads of 61 and 43 bytes with the log full: two rows are dropped, not three; worked by hand",
+            log_full(),
+        )
+        .worked(log_full_output()),
         Case::new(
             "table-0-bytes",
             "a table load without bytes: kind 5, and the old bytes drive",

@@ -17,8 +17,8 @@ pub struct Case {
     /// One line for the index.
     shows: &'static str,
     pub file: Vec<u8>,
-    /// The output as a paper has it; without one it is the published Rust's.
-    output: Option<&'static str>,
+    /// The output as a paper has it or as worked by hand; without one it is the published Rust's.
+    output: Option<String>,
 }
 
 impl Case {
@@ -32,6 +32,14 @@ impl Case {
             shows,
             file,
             output: None,
+        }
+    }
+
+    /// With its output, worked by hand.
+    fn worked(self, output: impl Into<String>) -> Case {
+        Case {
+            output: Some(output.into()),
+            ..self
         }
     }
 }
@@ -60,10 +68,7 @@ pub fn example() -> Script {
 
 pub fn all() -> Vec<Case> {
     let shows = "document 01's worked example; the output is the paper's";
-    let mut cases = vec![Case {
-        output: Some(EXAMPLE_OUTPUT),
-        ..Case::new("example", shows, example())
-    }];
+    let mut cases = vec![Case::new("example", shows, example()).worked(EXAMPLE_OUTPUT)];
     cases.extend(refreshes::cases());
     cases.extend(commands::cases());
     cases.extend(refusals::cases());
@@ -75,9 +80,7 @@ pub fn write(directory: &Path) -> io::Result<()> {
     fs::create_dir_all(directory)?;
     let mut index = String::from("# The small cases\n\n");
     for case in all() {
-        let output = case
-            .output
-            .map_or_else(|| run::run(&case.file), String::from);
+        let output = case.output.unwrap_or_else(|| run::run(&case.file));
         fs::write(directory.join(format!("{}.capture", case.name)), &case.file)?;
         fs::write(directory.join(format!("{}.out", case.name)), output)?;
         let _ = writeln!(index, "- `{}`: {}.", case.name, case.shows);

@@ -3,7 +3,7 @@
 use chips::uc8253::{Plane, RAM_GATES};
 
 use crate::planes::{self, Planes};
-use crate::{cases, generate, picture, replays, run, stats, trace};
+use crate::{cases, generate, log, picture, replays, run, stats, trace};
 
 /// Digests that are kept are those taken anew over the whole planes.
 #[test]
@@ -48,6 +48,50 @@ fn the_stored_cases_are_the_written_ones() {
         let stored = std::fs::read(path).expect("each case is stored");
         assert_eq!(stored, case.file, "{}", case.name);
     }
+}
+
+/// Of rows of every kind just kind 13 with 61 bytes or more is left out.
+#[test]
+fn the_second_row_of_a_fault_is_left_out() {
+    for kind in 1..=15 {
+        for field in 0..=65_535 {
+            let row = [7, kind, 0x24, field, 0];
+            assert_eq!(log::is_second(&row), kind == 13 && field >= 61, "{row:?}");
+        }
+    }
+}
+
+/// Up to 1,024 rows the log is the Rust's own list with those rows left out, each of them behind
+/// a row of kind 4 for the same command, and nothing else; beyond that it is the Rust's own where
+/// none is left out.
+#[test]
+fn nothing_else_is_left_out() {
+    let (mut short, mut long) = (0, 0);
+    for seed in 1..3_000 {
+        let file = generate::make(seed);
+        let (Ok((capture, chip)), Ok((_, twin))) = (run::accept(&file), run::accept(&file)) else {
+            continue;
+        };
+        let log = run::events(chip, &capture.events, |_, _, _| ()).log;
+        let own = run::own_log(twin, &capture.events);
+        if own.dropped > 0 {
+            long += u64::from(log.left_out == 0);
+            assert!(log.left_out > 0 || log == own, "seed {seed}");
+            continue;
+        }
+        let (second, kept): (Vec<log::Row>, _) =
+            own.stored.iter().partition(|row| log::is_second(row));
+        assert_eq!((&log.stored, log.dropped), (&kept, 0), "seed {seed}");
+        assert_eq!(log.left_out, second.len() as u64, "seed {seed}");
+        short += u64::from(log.left_out > 0);
+        for row in second {
+            let at = own.stored.iter().position(|other| *other == row);
+            let before = &own.stored[..at.unwrap_or_default()];
+            let first = before.iter().rev().find(|other| other[2] == row[2]);
+            assert_eq!(first.map(|first| first[1]), Some(4), "seed {seed}");
+        }
+    }
+    assert!(short > 50 && long > 20, "{short} {long}");
 }
 
 /// A file of one of the project's crates.
