@@ -19,7 +19,8 @@ use Rattle.registers.specs.Luts.{resetLuts}
 use Rattle.registers.specs.Reset.{resetOf}
 use Rattle.registers.specs.Written.{activeOf}
 use Rattle.waveform.specs.declared.Waveform.{Waveform}
-use Rattle.waveform.specs.Levels.{supplyLevel, levelsOf, levelOfCode}
+use Rattle.supply.specs.Supply.{supplyLevel}
+use Rattle.waveform.specs.Levels.{levelsOf, levelOfCode}
 use Rattle.waveform.specs.Tables.{running, tableAt, durationOf}
 use Rattle.waveform.specs.Frames.{framesOf}
 use Rattle.controller.specs.declared.Power.the-variants as power

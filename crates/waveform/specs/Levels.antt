@@ -1,16 +1,13 @@
 -- Document 01, "A refresh": the supply levels, in millivolts.
-use Prim.Native.Nat.{ℕ, _+_, _*_, _%_}
+use Prim.Native.Nat.{ℕ, _%_}
 use mathlib.Core.List.{List}
 use mathlib.Core.Bool.{Bool}
 use lib.Dec.{eqb}
 use lib.ListN.{getD}
 use lib.IntN.{ℤ, pos, negℤ}
 use Rattle.base.specs.Pick.{pick}
+use Rattle.supply.specs.Supply.{supplyLevel}
 use Rattle.waveform.specs.declared.Levels.{Levels}
-
--- a supply level by its low six bits: 2,400 + 200 × code
-abbrev pub supplyLevel : ℕ → ℕ
-supplyLevel code = 2400 + 200 * (code % 64)
 
 -- the third byte of 01, the fourth, which is negated where it is used, and the fifth
 abbrev pub levelsOf : List ℕ → Levels

@@ -11,7 +11,7 @@ ghost use lib.ListN.{length, take, replicate};
 ghost use lib.IntN.{ℤ};
 ghost use Rattle.base.specs.Word.{top};
 ghost use Rattle.glass.specs.Transfer.{Acts};
-ghost use Rattle.waveform.specs.Levels.{supplyLevel, levelsOf, levelOfCode};
+ghost use Rattle.waveform.specs.Levels.{levelsOf, levelOfCode};
 ghost use Rattle.waveform.specs.Tables.{groupOf, tableOf, tablesOf, waveformOf, sumOf, ends, running, tableFrameCount, durationOf};
 ghost use Rattle.waveform.specs.Frames.{driveOf, vcomCodes, roundFrames, groupFrames, framesOf};
 ghost use Rattle.waveform.specs.InnerProgress.{Parts, Drives, Extends, framesUnder};
@@ -20,6 +20,7 @@ use base::least;
 use base::saturating_mul;
 use base::saturating_sub;
 use glass::Transfer;
+use supply::supply_millivolts;
 
 // Groups of a LUT.
 pub const GROUPS: usize = 7;
@@ -42,13 +43,6 @@ pub struct Levels {
     pub vdh: u16,
     pub vdl: u16,
     pub vdhr: u16,
-}
-
-// A supply level of PWR by its low six bits: 2.4 V and 0.2 V a step.
-pub fn supply_millivolts(code: u8) -> u16
-    ensures { λ r. ⌜ r ≡ supplyLevel code ⌝ }
-{
-    2400 + 200 * ((code % 64) as u16)
 }
 
 impl Levels {
