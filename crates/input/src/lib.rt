@@ -1,4 +1,6 @@
 // The bytes of an input, read to its end: a read that fails is told from the end.
+ghost use mathlib.Core.Path.{_≡_};
+ghost use lib.ListN.{take};
 ghost use Rattle.input.specs.Within.{Within};
 
 pub enum Input {
@@ -25,4 +27,14 @@ pub fn read_all(fd: i32, buffer: &mut [u8]) -> Input
         held += n;
     }
     Input::Bytes(held)
+}
+
+// The first n bytes, or all where there are not so many.
+pub fn front(bytes: &[u8], n: usize) -> &[u8]
+    ensures { λ r. ⌜ now r ≡ take n (now (bytes .entry)) ⌝ }
+{
+    if n <= bytes.len() {
+        return &bytes[..n];
+    }
+    bytes
 }
