@@ -19,12 +19,14 @@ use Rattle.log.specs.declared.Log.{Log}
 use Rattle.capture.specs.Little.{little}
 use Rattle.text.specs.Text.{ascii, digits}
 use Rattle.text.proofs.Digits.{length-digits}
+use Rattle.outcome.specs.declared.Came.{Came}
+use Rattle.outcome.specs.declared.Came.the-variants as came
 use Rattle.output.specs.declared.Form.{Form}
 use Rattle.output.specs.declared.Form.the-variants as form
 use Rattle.output.specs.declared.Outcome.{Outcome}
 use Rattle.output.specs.Lines.{behind, spaced, line, byteWord, kindWord, flagWord, refreshWords}
-use Rattle.output.specs.Lines.{refusedLine, readLine, diagLine, droppedLine, imageLine, greysLine, graymapHead}
-use Rattle.output.specs.Units.{upTo, rowOf, readOf, lastOf, linesOf, graymapOf, playedOf, unitsOf}
+use Rattle.output.specs.Lines.{noEventsLine, refusedLine, readLine, diagLine, droppedLine, imageLine, greysLine, graymapHead}
+use Rattle.output.specs.Units.{upTo, rowOf, readOf, lastOf, linesOf, graymapOf, playedOf, unitsBy, unitsOf}
 use Rattle.output.specs.Parts.{joined}
 use Rattle.output.proofs.PartLaws.{inParts, all-parts}
 
@@ -32,7 +34,7 @@ use Rattle.output.proofs.PartLaws.{inParts, all-parts}
 pub record Sized (o : Outcome) (events answers picture rows : List ℕ) : Type 0 where
   pub width : o .image .width ≤ 800
   pub height : o .image .height < 2 ^ 64
-  pub refused : o .refused < 2 ^ 64
+  pub refused : (n : ℕ) → o .came ≡ came.Refused n → n < 2 ^ 64
   pub dropped : o .log .dropped < 2 ^ 64
   pub generation : o .image .generation < 2 ^ 64
   pub started : o .image .started < 2 ^ 64
@@ -213,15 +215,21 @@ module _ (o : Outcome) (events answers picture rows : List ℕ) (s : Sized o eve
       short-cons (graymapHead (o .image .width) (o .image .height)) (upTo (o .image .height) (λ y. rowOf (o .image .width) y picture))
       head-short (short-up-to (o .image .height) (λ y. rowOf (o .image .width) y picture) pixels-short)
 
-  played-short : (f : Form) → Short (playedOf f o events answers picture rows)
-  played-short form.Lines = lines-short
+  played-short : (f : Form) → Short (playedOf f (o .log) (o .image) events answers picture rows)
+  played-short form.Panel = lines-short
   played-short form.Picture = graymap-short
 
+  units-by-short : (c : Came) (played : List (List ℕ)) → ((n : ℕ) → c ≡ came.Refused n → n < 2 ^ 64) → Short played
+      → Short (unitsBy c played)
+  unfolding noEventsLine refusedLine
+  units-by-short came.NoEvents played small p = short-cons noEventsLine [] (omega arith) short-nil
+  units-by-short (came.Refused n) played small p =
+      short-cons (refusedLine n) [] (one-short (ascii "refused") n (omega arith) (small n refl)) short-nil
+  units-by-short came.Played played small p = p
+
   pub units-short : (f : Form) → Short (unitsOf f o events answers picture rows)
-  unfolding unitsOf refusedLine
-  units-short f =
-      both Short (eqb (o .refused) 0) (played-short f)
-      (short-cons (refusedLine (o .refused)) [] (one-short (ascii "refused") (o .refused) (omega arith) (s .refused)) short-nil)
+  unfolding unitsOf
+  units-short f = units-by-short (o .came) _ (s .refused) (played-short f)
 
   -- so a buffer of 8,192 bytes takes the whole text, part by part
   pub whole-text : (f : Form) → let us = unitsOf f o events answers picture rows in inParts 8192 (length us) 0 us ≡ joined us

@@ -6,16 +6,19 @@ use native.Mathlib.Nat.{not-suc-le-zero, le-of-suc-le-suc, add-sub-cancel-left}
 use native.Mathlib.Omega.{arith}
 use lib.ListN.{length, getD, take, drop, length-append, length-drop, drop-of-length-le, List·getD-append}
 use lib.Seq.{take-nil, take-all, getD-append-add}
-use borrow.Author.Tests.{eq-eqb, ne-eqb}
+use borrow.Author.Tests.{ne-eqb}
 use Rattle.base.proofs.Lists.{getD-past}
 use Rattle.glass.specs.declared.PanelImage.{PanelImage}
 use Rattle.log.specs.declared.Log.{Log}
 use Rattle.capture.specs.Little.{little}
+use Rattle.outcome.specs.declared.Came.{Came}
+use Rattle.outcome.specs.declared.Came.the-variants as came
 use Rattle.output.specs.declared.Form.{Form}
 use Rattle.output.specs.declared.Form.the-variants as form
 use Rattle.output.specs.declared.Outcome.{Outcome}
-use Rattle.output.specs.Lines.{refusedLine, readLine, diagLine, droppedLine, imageLine, greysLine, graymapHead}
-use Rattle.output.specs.Units.{upTo, rowOf, readOf, lastOf, linesOf, graymapOf, unitsOf}
+use Rattle.output.specs.Lines.{noEventsLine, refusedLine, readLine, diagLine, droppedLine, imageLine, greysLine, graymapHead}
+use Rattle.output.specs.Units.{upTo, rowOf, readOf, lastOf, linesOf, graymapOf, playedOf, unitsBy, unitsOf}
+use Rattle.output.specs.InnerCount.{playedCount}
 
 length-up-to : {A : Type 0} (n : ℕ) (f : ℕ → A) → length (upTo n f) ≡ n
 length-up-to zero f = refl
@@ -170,20 +173,22 @@ pub only-past : (u : List ℕ) (i : ℕ) → (i ≡ 0 → ⊥) → [] ≡ getD (
 only-past u zero f = absurd (f refl)
 only-past u (suc i) f = refl
 
--- ---- what is written of a capture, and how many units that is
-module _ (o : Outcome) (events answers picture rows : List ℕ) where
-  pub units-refused : (f : Form) → (o .refused ≡ 0 → ⊥) → unitsOf f o events answers picture rows ≡ refusedLine (o .refused) ∷ []
+-- ---- what is written of a file, by what it came to
+module _ (f : Form) (o : Outcome) (events answers picture rows : List ℕ) where
+  pub units-none : o .came ≡ came.NoEvents → unitsOf f o events answers picture rows ≡ noEventsLine ∷ []
   unfolding unitsOf
-  units-refused f h = rw (ne-eqb (o .refused) 0 h)
+  units-none e = ap (λ (c : Came). unitsBy c (playedOf f (o .log) (o .image) events answers picture rows)) e
 
-  module _ (h : o .refused ≡ 0) (f : Form) where
-    pub units-lines : f ≡ form.Lines → unitsOf f o events answers picture rows ≡ linesOf (o .log) (o .image) events answers picture rows
-    unfolding unitsOf
-    units-lines e = rw (eq-eqb (o .refused) 0 h, e)
+  pub units-refused : {n : ℕ} → o .came ≡ came.Refused n → unitsOf f o events answers picture rows ≡ refusedLine n ∷ []
+  unfolding unitsOf
+  units-refused e = ap (λ (c : Came). unitsBy c (playedOf f (o .log) (o .image) events answers picture rows)) e
 
-    pub units-picture : f ≡ form.Picture → unitsOf f o events answers picture rows ≡ graymapOf (o .image) picture
-    unfolding unitsOf
-    units-picture e = rw (eq-eqb (o .refused) 0 h, e)
+  pub units-played : o .came ≡ came.Played
+      → unitsOf f o events answers picture rows ≡ playedOf f (o .log) (o .image) events answers picture rows
+  unfolding unitsOf
+  units-played e = ap (λ (c : Came). unitsBy c (playedOf f (o .log) (o .image) events answers picture rows)) e
+
+-- ---- how many units that is
 
 pub length-lines : (g : Log) (p : PanelImage) (events answers picture rows : List ℕ)
     → length (linesOf g p events answers picture rows) ≡ length events / 10 + (g .stored + p .height + 2)
@@ -194,3 +199,8 @@ length-lines g p events answers picture rows =
 pub length-graymap : (p : PanelImage) (picture : List ℕ) → length (graymapOf p picture) ≡ p .height + 1
 unfolding graymapOf
 length-graymap p picture = simp length-up-to (omega arith)
+
+pub length-played : (f : Form) (g : Log) (p : PanelImage) (events answers picture rows : List ℕ)
+    → length (playedOf f g p events answers picture rows) ≡ playedCount f (g .stored) (p .height) events
+length-played form.Panel g p events answers picture rows = length-lines g p events answers picture rows
+length-played form.Picture g p events answers picture rows = length-graymap p picture

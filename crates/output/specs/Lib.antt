@@ -1,3 +1,4 @@
 pub mod Lines
 pub mod Units
 pub mod Parts
+pub mod InnerCount

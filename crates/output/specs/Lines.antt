@@ -23,6 +23,10 @@ spaced (w ∷ ws) = w ++ behind ws
 abbrev pub line : List (List ℕ) → List ℕ
 line ws = spaced ws ++ ascii "\n"
 
+-- `no events` alone, for an empty file (2026-06)
+unfoldable pub noEventsLine : List ℕ
+noEventsLine = line (ascii "no" ∷ ascii "events" ∷ [])
+
 -- `refused` and the number
 unfoldable pub refusedLine : ℕ → List ℕ
 refusedLine n = line (ascii "refused" ∷ digits n ∷ [])

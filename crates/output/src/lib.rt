@@ -12,25 +12,26 @@ ghost use mathlib.Core.List.{List, [], _∷_};
 ghost use Prim.Native.Nat.{ℕ};
 ghost use lib.ListN.{length, getD};
 ghost use Rattle.text.specs.Text.{Puts};
-ghost use Rattle.output.specs.Lines.{refusedLine};
-ghost use Rattle.output.specs.Units.{unitsOf};
+ghost use Rattle.output.specs.Lines.{noEventsLine, refusedLine};
+ghost use Rattle.output.specs.Units.{playedOf, unitsOf};
+ghost use Rattle.output.specs.InnerCount.{playedCount};
 ghost use Rattle.output.specs.Parts.{Lays};
 use glass::PanelImage;
 use log::Log;
+pub use outcome::Came;
 use text::put;
 
-// What is written of a capture that is not refused.
+// What is written of a capture that is played.
 pub enum Form {
-    // The lines of document 01.
-    Lines,
+    // The lines of document 01, as `panel` writes them.
+    Panel,
     // The last picture alone, as a graymap.
     Picture,
 }
 
 // What a capture came to, beside what its buffers hold.
 pub struct Outcome {
-    // The number of the refusal, 0 where the capture was played.
-    pub refused: u8,
+    pub came: Came,
     pub log: Log,
     pub image: PanelImage,
 }
@@ -45,14 +46,32 @@ pub struct Part {
 pub fn count(form: Form, o: Outcome, events: &[u8]) -> usize
     ensures { λ r. ⌜ ((answers picture rows : List ℕ) → r ≡ length (unitsOf form o (now (events .entry)) answers picture rows)) ⌝ }
 {
-    if o.refused != 0 {
-        return 1;
+    let came = o.came;
+    match came {
+        Came::NoEvents => 1,
+        Came::Refused(_) => 1,
+        Came::Played => played_count(form, o.log.stored, o.image.height, events),
     }
-    let height = o.image.height;
+}
+
+// Of a capture that was played.
+fn played_count(form: Form, stored: u16, height: u16, events: &[u8]) -> usize
+    ensures { λ r. ⌜ r ≡ playedCount form stored height (now (events .entry)) ⌝ }
+{
     match form {
-        Form::Lines => lines::count(events, o.log.stored, height),
+        Form::Panel => lines::count(events, stored, height),
         Form::Picture => height as usize + 1,
     }
+}
+
+// An evening without events has one unit.
+fn no_events(text: &mut [u8], held: usize, i: usize) -> usize
+    ensures { λ r. ⌜ Puts (getD (noEventsLine ∷ []) i []) held r (now (text .entry)) (now (text .exit)) ⌝ }
+{
+    if i == 0 {
+        return put(text, held, b"no events\n");
+    }
+    put(text, held, b"")
 }
 
 // A refused capture has one unit.
@@ -63,6 +82,29 @@ fn refused(text: &mut [u8], held: usize, no: u8, i: usize) -> usize
         return lines::refused(text, held, no);
     }
     put(text, held, b"")
+}
+
+// Unit i of a capture that was played.
+fn played(
+    text: &mut [u8],
+    held: usize,
+    form: Form,
+    log: Log,
+    image: PanelImage,
+    events: &[u8],
+    answers: &[u16],
+    picture: &[u8],
+    rows: &[u64],
+    i: usize,
+) -> usize
+    ensures { λ r. ⌜ Puts
+        (getD (playedOf form log image (now (events .entry)) (now (answers .entry)) (now (picture .entry)) (now (rows .entry))) i [])
+        held r (now (text .entry)) (now (text .exit)) ⌝ }
+{
+    match form {
+        Form::Panel => lines::unit(text, held, log, image, events, answers, picture, rows, i),
+        Form::Picture => pgm::unit(text, held, image, picture, i),
+    }
 }
 
 // Unit i.
@@ -81,14 +123,24 @@ pub fn unit(
         (getD (unitsOf form o (now (events .entry)) (now (answers .entry)) (now (picture .entry)) (now (rows .entry))) i [])
         held r (now (text .entry)) (now (text .exit)) ⌝ }
 {
-    if o.refused != 0 {
-        return refused(text, held, o.refused, i);
-    }
+    let came = o.came;
     let log = o.log;
     let image = o.image;
-    match form {
-        Form::Lines => lines::unit(text, held, log, image, events, answers, picture, rows, i),
-        Form::Picture => pgm::unit(text, held, image, picture, i),
+    match came {
+        Came::NoEvents => no_events(text, held, i),
+        Came::Refused(no) => refused(text, held, no, i),
+        Came::Played => played(
+            text,
+            held,
+            form,
+            log,
+            image,
+            events,
+            answers,
+            picture,
+            rows,
+            i,
+        ),
     }
 }
 

@@ -1,5 +1,9 @@
 // The capture program: a capture on standard input, and on standard output what the controller and
-// its glass made of it, or `refused` and a number.
+// its glass made of it, `refused` and a number, or `no events` for an empty file.
+use input::Input;
+use input::front;
+use input::read_all;
+use libc::STDERR_FILENO;
 use libc::STDIN_FILENO;
 use showing::Form;
 use showing::INPUT;
@@ -8,11 +12,16 @@ use showing::show;
 fn run(file: &[u8]) {
     let mut old = [0u8; 60000];
     let mut new = [0u8; 60000];
-    show(file, Form::Lines, &mut old, &mut new);
+    show(file, Form::Panel, &mut old, &mut new);
 }
 
 fn main() {
     let mut buffer = [0u8; INPUT];
-    let n = io::read_full(STDIN_FILENO, &mut buffer);
-    run(&buffer[..n]);
+    let got = read_all(STDIN_FILENO, &mut buffer);
+    match got {
+        Input::Bytes(n) => run(front(&buffer, n)),
+        Input::Failed => {
+            io::write_all(STDERR_FILENO, b"could not read standard input\n");
+        }
+    }
 }

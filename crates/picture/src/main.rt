@@ -1,5 +1,9 @@
 // A capture on standard input, and on standard output its last picture as a graymap, which any
 // viewer opens, or `refused` and a number.
+use input::Input;
+use input::front;
+use input::read_all;
+use libc::STDERR_FILENO;
 use libc::STDIN_FILENO;
 use showing::Form;
 use showing::INPUT;
@@ -13,6 +17,11 @@ fn run(file: &[u8]) {
 
 fn main() {
     let mut buffer = [0u8; INPUT];
-    let n = io::read_full(STDIN_FILENO, &mut buffer);
-    run(&buffer[..n]);
+    let got = read_all(STDIN_FILENO, &mut buffer);
+    match got {
+        Input::Bytes(n) => run(front(&buffer, n)),
+        Input::Failed => {
+            io::write_all(STDERR_FILENO, b"could not read standard input\n");
+        }
+    }
 }

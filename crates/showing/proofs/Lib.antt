@@ -1,3 +1,4 @@
 pub mod FileLaws
 pub mod Zeros
 pub mod Written
+pub mod Empty

@@ -7,6 +7,7 @@ use lib.ListN.{length, length-replicate}
 use Rattle.base.specs.Pick.{pick}
 use Rattle.base.proofs.Cases.{by-cases}
 use Rattle.config.specs.Refusal.{refusal}
+use Rattle.outcome.specs.declared.Came.{Came}
 use Rattle.output.specs.declared.Form.{Form}
 use Rattle.output.specs.Units.{unitsOf}
 use Rattle.capture.specs.Layout.{configIn}
@@ -19,7 +20,7 @@ use Rattle.capture.specs.Reading.{eventsOf}
 use Rattle.events.specs.Played as events
 use Rattle.showing.specs.Played.{playRefused, played, answersPlayed}
 use Rattle.showing.specs.Shown.{lentFor, lentAnswers}
-use Rattle.showing.specs.Output.{unitsPlayed, outputOf, Output}
+use Rattle.showing.specs.Output.{cameOf, unitsPlayed, outputOf, Output}
 
 -- ---- two pairs of planes of the same lengths
 module _ (file old new o n : List ℕ) (eo : length old ≡ length o) (en : length new ≡ length n) where
@@ -61,7 +62,7 @@ pub planes-alike : (f : Form) (file old new : List ℕ)
 unfolding outputOf
 planes-alike f file old new =
     let a = alike file old new _ _ (sym (length-replicate {A = ℕ} (length old) 0)) (sym (length-replicate {A = ℕ} (length new) 0)) in
-    λ i. unitsOf f (record { refused = a .number i; log = a .chip i .log; image = a .chip i .image })
+    λ i. unitsOf f (record { came = cameOf f file (a .number i); log = a .chip i .log; image = a .chip i .image })
     (eventsOf file) (a .answers i) (a .picture i) (a .rows i)
 
 -- ---- what is written
@@ -69,12 +70,12 @@ module _ (f : Form) (file old new : List ℕ) (b : Buffers) (given : List ℕ) (
   same : unitsPlayed f file b given ≡ outputOf f file (length old) (length new)
   same = (λ i. unitsPlayed f file (eb i) (eg i)) ∙ planes-alike f file old new
 
-  pub written : (p : Uc8253) (c : Buffers) (n : ℕ) (answers : List ℕ)
-      → world p c ≡ played file b → n ≡ playRefused file b → answers ≡ answersPlayed file b given
+  pub written : (p : Uc8253) (c : Buffers) (x : Came) (answers : List ℕ)
+      → world p c ≡ played file b → x ≡ cameOf f file (playRefused file b) → answers ≡ answersPlayed file b given
       → Output f file (length old) (length new)
-      (unitsOf f (record { refused = n; log = p .log; image = p .image }) (eventsOf file) answers (c .picture) (c .rows))
-  written p c n answers ew en ea =
-      (λ i. unitsOf f (record { refused = en i; log = ew i .chip .log; image = ew i .chip .image })
+      (unitsOf f (record { came = x; log = p .log; image = p .image }) (eventsOf file) answers (c .picture) (c .rows))
+  written p c x answers ew ex ea =
+      (λ i. unitsOf f (record { came = ex i; log = ew i .chip .log; image = ew i .chip .image })
       (eventsOf file) (ea i) (ew i .lent .picture) (ew i .lent .rows))
       ∙ same
 

@@ -3,7 +3,10 @@ use mathlib.Core.Path.{_≡_}
 use mathlib.Core.List.{List}
 use Prim.Native.Nat.{ℕ, _-_}
 use lib.ListN.{replicate}
+use Rattle.outcome.specs.declared.Came.{Came}
+use Rattle.outcome.specs.Came.{cameBy, panelCame}
 use Rattle.output.specs.declared.Form.{Form}
+use Rattle.output.specs.declared.Form.the-variants as form
 use Rattle.output.specs.declared.Outcome.{Outcome}
 use Rattle.output.specs.Units.{unitsOf}
 use Rattle.output.specs.Parts.{unitsFrom}
@@ -12,15 +15,20 @@ use Rattle.capture.specs.Reading.{eventsOf}
 use Rattle.showing.specs.Played.{playRefused, played, answersPlayed}
 use Rattle.showing.specs.Shown.{lentFor, lentAnswers}
 
--- the number of a refusal, and the record's log and picture, after the last event
-abbrev pub outcomeOf : List ℕ → Buffers → Outcome
-outcomeOf file b = record { refused = playRefused file b; log = played file b .chip .log; image = played file b .chip .image }
+-- what a file comes to, by the number of its refusal: `panel` takes an empty one for no events, every other word refuses it
+abbrev pub cameOf : Form → List ℕ → ℕ → Came
+cameOf form.Panel file n = panelCame file n
+cameOf form.Picture file n = cameBy n
+
+-- and the record's log and picture after the last event
+abbrev pub outcomeOf : Form → List ℕ → Buffers → Outcome
+outcomeOf f file b = record { came = cameOf f file (playRefused file b); log = played file b .chip .log; image = played file b .chip .image }
 
 -- played in the buffers b, with those answers lent
 abbrev pub unitsPlayed : Form → List ℕ → Buffers → List ℕ → List (List ℕ)
 unitsPlayed f file b answers =
     let w = played file b .lent in
-    unitsOf f (outcomeOf file b) (eventsOf file) (answersPlayed file b answers) (w .picture) (w .rows)
+    unitsOf f (outcomeOf f file b) (eventsOf file) (answersPlayed file b answers) (w .picture) (w .rows)
 
 -- what is written of the file, where the lent planes have m and n bytes: what they hold does not count, since making sets them to zero
 -- (`planes-alike` of proofs/Written.antt). A program lends 60,000 bytes each

@@ -12,17 +12,31 @@ ghost use Rattle.capture.specs.Layout.{pixelCount};
 ghost use Rattle.capture.specs.Reading.{Reads};
 ghost use Rattle.controller.specs.Lent.{lent};
 ghost use Rattle.showing.specs.Shown.{lentFor, lentAnswers, shown};
+ghost use Rattle.showing.specs.Output.{cameOf};
 use capture::Capture;
 use capture::MOST_EVENTS;
 use capture::MOST_PIXELS;
 use config::Uc8253Config;
 use log::ROWS;
+use outcome::Came;
+use outcome::came_by;
+use outcome::panel_came;
 use output::Outcome;
 use play::play;
 use write::write;
 
 // A capture of the largest size and one byte more, so that a larger one is seen to be larger.
 pub const INPUT: usize = 65_537;
+
+// What the file came to; an empty one is no events for `panel` alone.
+fn came_of(form: Form, file: &[u8], number: u8) -> Came
+    ensures { λ r. ⌜ r ≡ cameOf form (now (file .entry)) number ⌝ }
+{
+    match form {
+        Form::Panel => panel_came(file, number),
+        Form::Picture => came_by(number),
+    }
+}
 
 // The capture in buffers of its panel's size: played, and then written.
 fn play_in(
@@ -50,11 +64,9 @@ fn play_in(
     let turned = played.refused;
     let log = chip.log;
     let image = chip.image;
-    let o = Outcome {
-        refused: turned.number(),
-        log,
-        image,
-    };
+    let number = turned.number();
+    let came = came_of(form, file, number);
+    let o = Outcome { came, log, image };
     let end = c.end;
     write(
         file,

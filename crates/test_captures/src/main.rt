@@ -18,7 +18,7 @@ const CHUNK: usize = 4_096;
 fn run(file: &[u8]) {
     let mut old = [0u8; 60000];
     let mut new = [0u8; 60000];
-    show(file, Form::Lines, &mut old, &mut new);
+    show(file, Form::Panel, &mut old, &mut new);
 }
 
 // Plays the next bytes of the input, as many as there is space for, or those that are left.

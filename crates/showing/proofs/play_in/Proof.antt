@@ -1,6 +1,7 @@
 -- `showing::play_in` meets its contract: what is written is what playing came to, and the planes are what it left in them.
-use mathlib.Core.Path.{_∙_}
+use mathlib.Core.Path.{ap, _∙_}
 use Rattle.controller.specs.World.{Buffers, buffers}
+use Rattle.showing.specs.Output.{cameOf}
 use Rattle.showing.proofs.Written.{written, old-shown, new-shown}
 use borrow.Author.Needs.{needs}
 use Rattle.showing.proofs.play_in.Statement.{statement}
@@ -8,7 +9,7 @@ use Rattle.showing.proofs.play_in.Tie as tie
 
 write-requires : tie.Need-write-requires
 write-requires c κs =
-    let made = c .before .before .before .before .before .before .before .before .before .before .before .before .before .before .before .before .before .before .before .before in
+    let made = c .before .before .before .before .before .before .before .before .before .before .before .before .before .before .before .before .before .before .before .before .before in
     let start = made .before .before .before .before .before .before .before .before .before .before .before .before .before .before .before in
     let a = start .args in
     let s = start .pre in
@@ -16,12 +17,14 @@ write-requires c κs =
     let e = made .play .ensures in (
       s .0 .end-is,
       written (a .form) (a .file .now) (a .old .now) (a .new .now) b (a .answers .now) (s .1 .0) (s .1 .1) _ _ _ _
-          (e .0 .0) (c .before .before .before .number .ensures ∙ e .0 .1) (e .1),
+          (e .0 .0)
+          (c .before .before .before .came-of .ensures ∙ ap (cameOf (a .form) (a .file .now)) (c .before .before .before .before .number .ensures ∙ e .0 .1))
+          (e .1),
     )
 
 returns : tie.Need-returns
 returns c =
-    let made = c .before .before .before .before .before .before .before .before .before .before .before .before .before .before .before .before .before .before .before .before .before in
+    let made = c .before .before .before .before .before .before .before .before .before .before .before .before .before .before .before .before .before .before .before .before .before .before in
     let start = made .before .before .before .before .before .before .before .before .before .before .before .before .before .before .before in
     let a = start .args in
     let s = start .pre in
@@ -35,6 +38,7 @@ pub play-in-spec : {M : Type 1} → statement M
 play-in-spec =
     tie.close
     (tie.spec
+    (λ c κs. search needs)
     (λ c κs. search needs)
     (λ c κs. search needs)
     write-requires

@@ -153,7 +153,17 @@ fn hold_to_own(file: &[u8], log: &Log) {
     }
 }
 
+/// What `panel` prints for a file of zero bytes (2026-06).
+pub const NO_EVENTS: &str = "no events\n";
+
 pub fn judge(file: &[u8]) -> Judged {
+    if file.is_empty() {
+        return Judged {
+            text: NO_EVENTS.to_string(),
+            is_refused: false,
+            left_out: 0,
+        };
+    }
     match accept(file) {
         Err(refusal) => Judged {
             text: refused(refusal),

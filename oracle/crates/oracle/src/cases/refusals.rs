@@ -104,7 +104,14 @@ fn files() -> Vec<Case> {
     cut_short.pop();
     vec![
         Case::of_file("refused-8", "the example less its last byte", cut_short),
-        Case::of_file("refused-8-empty", "a file of no bytes", Vec::new()),
+        Case::of_file(
+            "empty-evening",
+            "a file of no bytes: no events; worked by hand",
+            Vec::new(),
+        )
+        .worked("no events\n"),
+        Case::of_file("refused-8-1", "a file of one byte, a zero", vec![0]),
+        Case::of_file("refused-8-319", "a file of 319 zeros", vec![0; 319]),
         Case::of_file(
             "refused-8-wrap",
             "offset 4, count 429,496,730, length 324: ten times the count wraps at 32 bits",
