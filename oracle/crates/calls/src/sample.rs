@@ -6,10 +6,10 @@ use std::io;
 use std::path::Path;
 
 use chips::uc8253::Uc8253;
+use jollanqe::Plane;
 use oracle::capture::{Capture, Event, MOST_EVENTS};
 use oracle::log::Log;
 use oracle::run;
-use ours::Plane;
 
 use crate::beside::{answer_number, deadline, is_low};
 use crate::memory::plane_bytes;
