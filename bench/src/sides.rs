@@ -3,16 +3,16 @@
 use chips::lines::ONE_GIGAHERTZ;
 use chips::uc8253::{self, Uc8253};
 use emu_core::Cycles;
+use jollanqe::{Panel, Plane};
 use oracle::capture::{self, Capture, Configuration, Event};
 use oracle::run;
-use ours::{Ours, Plane};
 
 pub const DTM1: u8 = 0x10;
 pub const DRF: u8 = 0x12;
 pub const DTM2: u8 = 0x13;
 
 pub struct Sides {
-    pub ours: Ours,
+    pub ours: Panel,
     pub rust: Uc8253,
     /// The time of the next event.
     pub clock: u64,
@@ -38,8 +38,8 @@ impl Stream {
         }
     }
 
-    pub fn run_ours(&mut self, ours: &mut Ours) {
-        ours.run(&self.bytes, &mut self.answers)
+    pub fn run_ours(&mut self, ours: &mut Panel) {
+        ours.run_bytes(&self.bytes, &mut self.answers)
             .expect("not refused");
     }
 
@@ -63,9 +63,9 @@ impl Sides {
             configuration: configuration.clone(),
             events: Vec::new(),
         };
-        let pixels = configuration.pixels() as usize;
+        let (handed, _) = jollanqe::read_capture(&capture.encode()).expect("listed");
         Sides {
-            ours: Ours::make(&capture.encode(), pixels).expect("not refused"),
+            ours: Panel::new(&handed).expect("not refused"),
             rust: Uc8253::new(configuration.chip(), ONE_GIGAHERTZ).expect("in range"),
             clock: 0,
         }

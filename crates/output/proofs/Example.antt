@@ -35,7 +35,7 @@ unfolding unitsOf linesOf lastOf readOf readLine diagLine droppedLine imageLine 
 worked = refl
 
 -- its picture as a graymap
-pub graymap : joined (unitsOf form.Picture played (replicate 140 0) (replicate 14 257) row stored) ≡ ascii "P5\n8 1\n255\n" ++ row
+pub graymap : joined (unitsOf form.Graymap played (replicate 140 0) (replicate 14 257) row stored) ≡ ascii "P5\n8 1\n255\n" ++ row
 unfolding unitsOf graymapOf graymapHead digits
 graymap = refl
 

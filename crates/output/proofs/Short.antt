@@ -19,6 +19,9 @@ use Rattle.log.specs.declared.Log.{Log}
 use Rattle.capture.specs.Little.{little}
 use Rattle.text.specs.Text.{ascii, digits}
 use Rattle.text.proofs.Digits.{length-digits}
+use Rattle.png.specs.declared.Adler.{Adler}
+use Rattle.png.specs.Zlib.{four, adlerNumber, storedHead, stored, none, zlibHead, adlerOf}
+use Rattle.png.specs.Png.{chunk, signature, header, headUnit, piece, rowUnit, rowUnits, endUnit, pngOf}
 use Rattle.outcome.specs.declared.Came.{Came}
 use Rattle.outcome.specs.declared.Came.the-variants as came
 use Rattle.output.specs.declared.Form.{Form}
@@ -26,9 +29,10 @@ use Rattle.output.specs.declared.Form.the-variants as form
 use Rattle.output.specs.declared.Outcome.{Outcome}
 use Rattle.output.specs.Lines.{behind, spaced, line, byteWord, kindWord, flagWord, refreshWords}
 use Rattle.output.specs.Lines.{noEventsLine, refusedLine, readLine, diagLine, droppedLine, imageLine, greysLine, graymapHead}
-use Rattle.output.specs.Units.{upTo, rowOf, readOf, lastOf, linesOf, graymapOf, playedOf, unitsBy, unitsOf}
+use Rattle.output.specs.Units.{upTo, rowOf, readOf, lastOf, linesOf, rowsOf, graymapOf, pngUnits, playedOf, unitsBy, unitsOf}
 use Rattle.output.specs.Parts.{joined}
 use Rattle.output.proofs.PartLaws.{inParts, all-parts}
+use Rattle.output.proofs.UnitLaws.{length-rows, at-rows}
 
 -- what the machine's types say of the numbers, and the width of a panel that is not oversized
 pub record Sized (o : Outcome) (events answers picture rows : List ℕ) : Type 0 where
@@ -140,6 +144,46 @@ short-up-to : (n : ℕ) (f : ℕ → List ℕ) → ((k : ℕ) → length (f k) <
 short-up-to zero f h = short-nil
 short-up-to (suc n) f h = short-cons (f 0) (upTo n (λ k. f (suc k))) (h 0) (short-up-to n (λ k. f (suc k)) (λ k. h (suc k)))
 
+-- ---- a PNG file
+chunk-length : (kind content : List ℕ) → length (chunk kind content) ≡ length kind + length content + 8
+unfolding chunk
+chunk-length kind content = simp length-append (omega arith)
+
+picked-length : (b : Bool) (l : List ℕ) (n : ℕ) → length l ≤ n → length (pick b l []) ≤ n
+picked-length b l n h = both (λ (m : List ℕ). length m ≤ n) b h (omega arith)
+
+piece-length : (row : List ℕ) (first last : Bool) (s : Adler) → length (piece row first last s) ≤ length row + 12
+unfolding piece stored storedHead
+piece-length row first last s =
+    simp length-append
+    (omega (
+      arith,
+      picked-length first zlibHead 2 (omega arith),
+      picked-length last (four (adlerNumber s)) 4 (omega arith),
+    ))
+
+row-unit-short : (row : List ℕ) (first last : Bool) (s : Adler) → length row ≤ 800 → length (rowUnit row first last s) < 8192
+unfolding rowUnit
+row-unit-short row first last s h =
+    omega (arith, chunk-length (ascii "IDAT") (piece row first last s), piece-length row first last s)
+
+row-units-short : (rows : List (List ℕ)) (first : Bool) (s : Adler) → ((i : ℕ) → length (getD rows i []) ≤ 800)
+    → Short (rowUnits rows first s)
+row-units-short [] first s h = short-nil
+row-units-short (r ∷ rs) first s h =
+    short-cons (rowUnit r first (none rs) s) (rowUnits rs false s) (row-unit-short r first (none rs) s (h 0))
+    (row-units-short rs false s (λ i. h (suc i)))
+
+file-head-short : (w h d : ℕ) → length (headUnit w h d) < 8192
+unfolding headUnit
+file-head-short w h d =
+    let content = four w ++ four h ++ d ∷ 0 ∷ 0 ∷ 0 ∷ 0 ∷ [] in
+    rw (length-append signature (chunk (ascii "IHDR") content)) (omega (arith, chunk-length (ascii "IHDR") content))
+
+end-short : length endUnit < 8192
+unfolding endUnit
+end-short = omega (arith, chunk-length (ascii "IEND") [])
+
 module _ (o : Outcome) (events answers picture rows : List ℕ) (s : Sized o events answers picture rows) where
   wide : o .image .width < 2 ^ 64
   wide = omega (arith, s .width)
@@ -215,9 +259,31 @@ module _ (o : Outcome) (events answers picture rows : List ℕ) (s : Sized o eve
       short-cons (graymapHead (o .image .width) (o .image .height)) (upTo (o .image .height) (λ y. rowOf (o .image .width) y picture))
       head-short (short-up-to (o .image .height) (λ y. rowOf (o .image .width) y picture) pixels-short)
 
+  rows-long : (i : ℕ) → length (getD (rowsOf (o .image .width) (o .image .height) picture) i []) ≤ 800
+  rows-long i =
+      let w = o .image .width in
+      let h = o .image .height in
+      elim (decLe h i) [
+        | yes p ↦
+            let z = getD-past (rowsOf w h picture) i [] (omega (arith, length-rows w h picture)) in
+            omega (arith, ap length z)
+        | no p ↦ omega (arith, ap length (at-rows w h picture i (omega arith)), row-long 256 w i picture (s .picture-bytes), s .width)
+      ]
+
+  file-short : Short (pngUnits (o .image) picture)
+  unfolding pngUnits pngOf
+  file-short =
+      let us = rowsOf (o .image .width) (o .image .height) picture in
+      short-cons (headUnit (o .image .width) (o .image .height) 8) (rowUnits us true (adlerOf us) ++ endUnit ∷ [])
+      (file-head-short (o .image .width) (o .image .height) 8)
+      (short-append (rowUnits us true (adlerOf us)) (endUnit ∷ []) (row-units-short us true (adlerOf us) rows-long)
+      (short-cons endUnit [] end-short short-nil))
+
   played-short : (f : Form) → Short (playedOf f (o .log) (o .image) events answers picture rows)
   played-short form.Panel = lines-short
-  played-short form.Picture = graymap-short
+  played-short form.Lines = lines-short
+  played-short form.Graymap = graymap-short
+  played-short form.Png = file-short
 
   units-by-short : (c : Came) (played : List (List ℕ)) → ((n : ℕ) → c ≡ came.Refused n → n < 2 ^ 64) → Short played
       → Short (unitsBy c played)

@@ -8,6 +8,7 @@ use lib.ListN.{length, getD, take, drop, length-append, length-drop, drop-of-len
 use lib.Seq.{take-nil, take-all, getD-append-add}
 use borrow.Author.Tests.{ne-eqb}
 use Rattle.base.proofs.Lists.{getD-past}
+use Rattle.png.proofs.UnitLaws.{length-png}
 use Rattle.glass.specs.declared.PanelImage.{PanelImage}
 use Rattle.log.specs.declared.Log.{Log}
 use Rattle.capture.specs.Little.{little}
@@ -17,7 +18,7 @@ use Rattle.output.specs.declared.Form.{Form}
 use Rattle.output.specs.declared.Form.the-variants as form
 use Rattle.output.specs.declared.Outcome.{Outcome}
 use Rattle.output.specs.Lines.{noEventsLine, refusedLine, readLine, diagLine, droppedLine, imageLine, greysLine, graymapHead}
-use Rattle.output.specs.Units.{upTo, rowOf, readOf, lastOf, linesOf, graymapOf, playedOf, unitsBy, unitsOf}
+use Rattle.output.specs.Units.{upTo, rowOf, readOf, lastOf, linesOf, rowsOf, graymapOf, pngUnits, playedOf, unitsBy, unitsOf}
 use Rattle.output.specs.InnerCount.{playedCount}
 
 length-up-to : {A : Type 0} (n : ℕ) (f : ℕ → A) → length (upTo n f) ≡ n
@@ -200,7 +201,24 @@ pub length-graymap : (p : PanelImage) (picture : List ℕ) → length (graymapOf
 unfolding graymapOf
 length-graymap p picture = simp length-up-to (omega arith)
 
+-- the rows of a picture
+pub length-rows : (w h : ℕ) (p : List ℕ) → length (rowsOf w h p) ≡ h
+unfolding rowsOf
+length-rows w h p = length-up-to h (λ y. rowOf w y p)
+
+pub at-rows : (w h : ℕ) (p : List ℕ) (y : ℕ) → y < h → getD (rowsOf w h p) y [] ≡ rowOf w y p
+unfolding rowsOf
+at-rows w h p y l = at-up-to h (λ y. rowOf w y p) [] y l
+
+pub length-file : (p : PanelImage) (picture : List ℕ) → length (pngUnits p picture) ≡ p .height + 2
+unfolding pngUnits
+length-file p picture =
+    let rows = rowsOf (p .width) (p .height) picture in
+    omega (arith, length-png (p .width) (p .height) 8 rows, length-rows (p .width) (p .height) picture)
+
 pub length-played : (f : Form) (g : Log) (p : PanelImage) (events answers picture rows : List ℕ)
     → length (playedOf f g p events answers picture rows) ≡ playedCount f (g .stored) (p .height) events
 length-played form.Panel g p events answers picture rows = length-lines g p events answers picture rows
-length-played form.Picture g p events answers picture rows = length-graymap p picture
+length-played form.Lines g p events answers picture rows = length-lines g p events answers picture rows
+length-played form.Graymap g p events answers picture rows = length-graymap p picture
+length-played form.Png g p events answers picture rows = length-file p picture

@@ -7,4 +7,6 @@ use Rattle.output.specs.declared.Form.the-variants as form
 
 abbrev pub playedCount : Form → ℕ → ℕ → List ℕ → ℕ
 playedCount form.Panel stored height events = length events / 10 + (stored + height + 2)
-playedCount form.Picture stored height events = height + 1
+playedCount form.Lines stored height events = length events / 10 + (stored + height + 2)
+playedCount form.Graymap stored height events = height + 1
+playedCount form.Png stored height events = height + 2

@@ -1,11 +1,12 @@
 // What is written of a capture (document 01, "The capture program"): its lines, or its last picture
-// as a graymap.
+// as a graymap or a PNG file.
 //
 // It is cut into units, a line or a row each, and a text of any length goes through a lent buffer
 // part by part: each part is as many whole units as end before the buffer does.
 mod lines;
 mod parts;
 mod pgm;
+mod png_file;
 
 ghost use mathlib.Core.Path.{_≡_};
 ghost use mathlib.Core.List.{List, [], _∷_};
@@ -25,8 +26,12 @@ use text::put;
 pub enum Form {
     // The lines of document 01, as `panel` writes them.
     Panel,
+    // The same lines, for a panel of any size.
+    Lines,
     // The last picture alone, as a graymap.
-    Picture,
+    Graymap,
+    // The last picture alone, as a PNG file.
+    Png,
 }
 
 // What a capture came to, beside what its buffers hold.
@@ -60,7 +65,9 @@ fn played_count(form: Form, stored: u16, height: u16, events: &[u8]) -> usize
 {
     match form {
         Form::Panel => lines::count(events, stored, height),
-        Form::Picture => height as usize + 1,
+        Form::Lines => lines::count(events, stored, height),
+        Form::Graymap => height as usize + 1,
+        Form::Png => height as usize + 2,
     }
 }
 
@@ -103,7 +110,9 @@ fn played(
 {
     match form {
         Form::Panel => lines::unit(text, held, log, image, events, answers, picture, rows, i),
-        Form::Picture => pgm::unit(text, held, image, picture, i),
+        Form::Lines => lines::unit(text, held, log, image, events, answers, picture, rows, i),
+        Form::Graymap => pgm::unit(text, held, image, picture, i),
+        Form::Png => png_file::unit(text, held, image.width, image.height, picture, i),
     }
 }
 

@@ -5,14 +5,13 @@ use input::front;
 use input::read_all;
 use libc::STDERR_FILENO;
 use libc::STDIN_FILENO;
-use showing::Form;
 use showing::INPUT;
-use showing::show;
+use showing::show_panel;
 
 fn run(file: &[u8]) {
     let mut old = [0u8; 60000];
     let mut new = [0u8; 60000];
-    show(file, Form::Panel, &mut old, &mut new);
+    show_panel(file, &mut old, &mut new);
 }
 
 fn main() {

@@ -12,7 +12,7 @@ use Rattle.base.specs.Pick.{pick}
 use Rattle.base.specs.RefusalNumbers.{refusalNumber}
 use Rattle.capture.specs.declared.reading.Capture.{Capture}
 use Rattle.capture.specs.Layout.{offsetOf, configIn}
-use Rattle.capture.specs.Refused.{tooMany, captureRefused}
+use Rattle.capture.specs.Refused.{captureRefused}
 use Rattle.capture.specs.Reading.{eventsEnd, eventsOf, Reads}
 use Rattle.controller.specs.World.{World, Buffers, world}
 use Rattle.controller.specs.TurnedBack.{makingRefused}
@@ -21,50 +21,50 @@ use Rattle.event.specs.Events.{eventsIn, refusedIn}
 use Rattle.events.specs.Played as events
 use Rattle.event.proofs.RunLaws.{Bytes, byte-anywhere}
 use Rattle.events.proofs.PlayLaws.{play-taken}
-use Rattle.showing.specs.Played.{playRefused, played, answersPlayed}
+use Rattle.output.specs.declared.Form.{Form}
+use Rattle.output.specs.declared.Form.the-variants as form
+use Rattle.showing.specs.Played.{numberFor, testedBy, playRefused, played, answersPlayed}
 
 -- ---- what was read, and what the file's definitions say
 module _ (file : List ℕ) (c : Capture) (t : Reads file c) where
-  pub program-number : (m : ℕ)
-      → m ≡ pick (eqb (refusalNumber (c .refused)) 0) (pick (tooMany (c .config)) 10 0) (refusalNumber (c .refused))
-      → m ≡ captureRefused file
-  unfolding captureRefused
-  program-number m e = e ∙ (λ i. pick (eqb (t .number-is i) 0) (pick (tooMany (t .config-is i)) 10 0) (t .number-is i))
+  pub program-number : (f : Form) (m : ℕ) → m ≡ numberFor f (refusalNumber (c .refused)) (c .config) → m ≡ testedBy f file
+  unfolding testedBy
+  program-number f m e = e ∙ (λ i. numberFor f (t .number-is i) (t .config-is i))
 
-  module _ (b : Buffers) (h : eqb (captureRefused file) 0 ≡ true) where
-    pub play-yes : (v : World) → v ≡ events.played (c .config) (take (c .end) file) b → v ≡ played file b
+  module _ (f : Form) (b : Buffers) (h : eqb (testedBy f file) 0 ≡ true) where
+    pub play-yes : (v : World) → v ≡ events.played (c .config) (take (c .end) file) b → v ≡ played f file b
     unfolding played
     play-yes v q = q ∙ (λ i. events.played (t .config-is i) (take (t .end-is i) file) b) ∙ rw h
 
-    pub play-yes-answers : (l l′ : List ℕ) → l′ ≡ events.answersPlayed (c .config) (take (c .end) file) b l → l′ ≡ answersPlayed file b l
+    pub play-yes-answers : (l l′ : List ℕ) → l′ ≡ events.answersPlayed (c .config) (take (c .end) file) b l → l′ ≡ answersPlayed f file b l
     unfolding answersPlayed
     play-yes-answers l l′ q = q ∙ (λ i. events.answersPlayed (t .config-is i) (take (t .end-is i) file) b l) ∙ rw h
 
-    pub play-yes-number : (m : ℕ) → m ≡ makingRefused (c .config) b → m ≡ playRefused file b
+    pub play-yes-number : (m : ℕ) → m ≡ makingRefused (c .config) b → m ≡ playRefused f file b
     unfolding playRefused
     play-yes-number m q = q ∙ (λ i. makingRefused (t .config-is i) b) ∙ rw h
 
-module _ (file : List ℕ) (b : Buffers) (h : eqb (captureRefused file) 0 ≡ false) where
-  pub play-no : (v : World) → v ≡ world zeros b → v ≡ played file b
+module _ (f : Form) (file : List ℕ) (b : Buffers) (h : eqb (testedBy f file) 0 ≡ false) where
+  pub play-no : (v : World) → v ≡ world zeros b → v ≡ played f file b
   unfolding played
   play-no v q = q ∙ rw h
 
-  pub play-no-answers : (l : List ℕ) → l ≡ answersPlayed file b l
+  pub play-no-answers : (l : List ℕ) → l ≡ answersPlayed f file b l
   unfolding answersPlayed
   play-no-answers l = rw h
 
-  pub play-no-number : (m : ℕ) → m ≡ captureRefused file → m ≡ playRefused file b
+  pub play-no-number : (m : ℕ) → m ≡ testedBy f file → m ≡ playRefused f file b
   unfolding playRefused
   play-no-number m q = q ∙ rw h
 
 -- ---- every event of a capture that is played is accepted
-making-taken : (file : List ℕ) (b : Buffers) → playRefused file b ≡ 0 → makingRefused (configIn file) b ≡ 0
+making-taken : (f : Form) (file : List ℕ) (b : Buffers) → playRefused f file b ≡ 0 → makingRefused (configIn file) b ≡ 0
 unfolding playRefused
-making-taken file b e = go (eqb (captureRefused file) 0) refl
+making-taken f file b e = go (eqb (testedBy f file) 0) refl
   where
-    go : (t : Bool) → eqb (captureRefused file) 0 ≡ t → makingRefused (configIn file) b ≡ 0
+    go : (t : Bool) → eqb (testedBy f file) 0 ≡ t → makingRefused (configIn file) b ≡ 0
     go true q = rw q at e
-    go false q = absurd (eqb-false (captureRefused file) 0 q (rw q at e))
+    go false q = absurd (eqb-false (testedBy f file) 0 q (rw q at e))
 
 gray-byte : (file : List ℕ) → Bytes file → configIn file .optics .«initial_gray» < 256
 unfolding configIn
@@ -73,7 +73,12 @@ gray-byte file h = byte-anywhere file h (offsetOf file + 6)
 front-byte : (n : ℕ) (l : List ℕ) → Bytes l → Bytes (take n l)
 front-byte n l h k q = rw (getD-take n l k 0 (omega (arith, length-take n l))) (byte-anywhere l h k)
 
-pub every-event-accepted : (file : List ℕ) (b : Buffers) → Bytes file → playRefused file b ≡ 0
+pub every-event-accepted : (f : Form) (file : List ℕ) (b : Buffers) → Bytes file → playRefused f file b ≡ 0
     → refusedIn (eventsOf file) (eventsIn (eventsOf file)) (made (configIn file) b) ≡ 0
-every-event-accepted file b h e =
-    play-taken (configIn file) (eventsOf file) b (gray-byte file h) (front-byte (eventsEnd file) file h) (making-taken file b e)
+every-event-accepted f file b h e =
+    play-taken (configIn file) (eventsOf file) b (gray-byte file h) (front-byte (eventsEnd file) file h) (making-taken f file b e)
+
+-- ---- the program's tests are those of document 01
+pub panel-tested : (file : List ℕ) → testedBy form.Panel file ≡ captureRefused file
+unfolding testedBy captureRefused
+panel-tested file = refl

@@ -1,4 +1,5 @@
 pub mod FileLaws
 pub mod Zeros
+pub mod Fitted
 pub mod Written
 pub mod Empty

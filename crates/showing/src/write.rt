@@ -1,10 +1,9 @@
-// The text of a capture that was played, on standard output.
+// The text of a capture that was played, to a descriptor.
 ghost use mathlib.Core.Path.{_≡_};
 ghost use Rattle.output.specs.Units.{unitsOf};
 ghost use Rattle.capture.specs.Reading.{eventsEnd, eventsOf};
 ghost use Rattle.showing.specs.Output.{Output, Between};
-use libc::STDERR_FILENO;
-use libc::STDOUT_FILENO;
+use crate::Sizes;
 use output::Form;
 use output::Outcome;
 use output::count;
@@ -14,24 +13,19 @@ use output::next_part;
 const ROOM: usize = 8_192;
 
 // Writes the bytes, which are the file's output from one unit up to another, and answers whether
-// they could be written. What they are of, and the lengths of the planes, are named for the
-// condition alone.
+// they could be written. What they are of, and the sizes lent, are named for the condition alone.
 fn emit(
     file: &[u8],
     form: Form,
-    old: usize,
-    new: usize,
+    fd: i32,
+    sizes: Sizes,
     from: usize,
     next: usize,
     bytes: &[u8],
 ) -> bool
-    requires { ⌜ Between form (now file) old new from next (now bytes) ⌝ }
+    requires { ⌜ Between form (now file) sizes from next (now bytes) ⌝ }
 {
-    if io::write_all(STDOUT_FILENO, bytes) {
-        return true;
-    }
-    io::write_all(STDERR_FILENO, b"could not write to standard output\n");
-    false
+    io::write_all(fd, bytes)
 }
 
 // All units, part by part, up to a write that fails.
@@ -39,15 +33,15 @@ fn write_parts(
     text: &mut [u8],
     file: &[u8],
     form: Form,
-    old: usize,
-    new: usize,
+    fd: i32,
+    sizes: Sizes,
     o: Outcome,
     events: &[u8],
     answers: &[u16],
     picture: &[u8],
     rows: &[u64],
-)
-    requires { ⌜ Output form (now file) old new (unitsOf form o (now events) (now answers) (now picture) (now rows)) ⌝ }
+) -> bool
+    requires { ⌜ Output form (now file) sizes (unitsOf form o (now events) (now answers) (now picture) (now rows)) ⌝ }
 {
     let end = count(form, o, events);
     let mut from: usize = 0;
@@ -56,14 +50,14 @@ fn write_parts(
         let held = part.held;
         let next = part.next;
         if next == from {
-            io::write_all(STDERR_FILENO, b"a line is longer than the buffer\n");
-            return;
+            return false;
         }
-        if !emit(file, form, old, new, from, next, &text[..held]) {
-            return;
+        if !emit(file, form, fd, sizes, from, next, &text[..held]) {
+            return false;
         }
         from = next;
     }
+    true
 }
 
 // What the capture came to, whose events end there.
@@ -71,27 +65,27 @@ pub(crate) fn write(
     file: &[u8],
     end: usize,
     form: Form,
-    old: usize,
-    new: usize,
+    fd: i32,
+    sizes: Sizes,
     o: Outcome,
     answers: &[u16],
     picture: &[u8],
     rows: &[u64],
-)
+) -> bool
     requires { ⌜ end ≡ eventsEnd (now file) ⌝ }
-    requires { ⌜ Output form (now file) old new (unitsOf form o (eventsOf (now file)) (now answers) (now picture) (now rows)) ⌝ }
+    requires { ⌜ Output form (now file) sizes (unitsOf form o (eventsOf (now file)) (now answers) (now picture) (now rows)) ⌝ }
 {
     let mut text = [0u8; ROOM];
     write_parts(
         &mut text,
         file,
         form,
-        old,
-        new,
+        fd,
+        sizes,
         o,
         &file[..end],
         answers,
         picture,
         rows,
-    );
+    )
 }

@@ -5,9 +5,8 @@ use base::TOP;
 use base::least;
 use capture::little;
 use libc::STDIN_FILENO;
-use showing::Form;
 use showing::INPUT;
-use showing::show;
+use showing::show_panel;
 
 // The bytes of a length.
 const LENGTH: usize = 4;
@@ -18,7 +17,7 @@ const CHUNK: usize = 4_096;
 fn run(file: &[u8]) {
     let mut old = [0u8; 60000];
     let mut new = [0u8; 60000];
-    show(file, Form::Panel, &mut old, &mut new);
+    show_panel(file, &mut old, &mut new);
 }
 
 // Plays the next bytes of the input, as many as there is space for, or those that are left.

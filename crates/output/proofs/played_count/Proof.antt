@@ -14,8 +14,18 @@ returns c =
 
 returns-2 : tie.Need-returns-2
 returns-2 c =
+    let a = c .before .before .before .before .args in
+    c .count2 .ensures ∙ ap (λ (f : Form). playedCount f (a .stored) (a .height) (a .events .now)) (sym (c .before .enum-told2 .given .1))
+
+returns-3 : tie.Need-returns-3
+returns-3 c =
     let a = c .before .before .before .args in
-    ap (λ (f : Form). playedCount f (a .stored) (a .height) (a .events .now)) (sym (c .enum-told2 .given .1))
+    ap (λ (f : Form). playedCount f (a .stored) (a .height) (a .events .now)) (sym (c .enum-told3 .given .1))
+
+returns-4 : tie.Need-returns-4
+returns-4 c =
+    let a = c .before .before .before .args in
+    ap (λ (f : Form). playedCount f (a .stored) (a .height) (a .events .now)) (sym (c .enum-told4 .given .1))
 
 pub played-count-spec : {M : Type 1} → statement M
 played-count-spec =
@@ -24,6 +34,12 @@ played-count-spec =
     (λ c. search needs)
     (λ c κs. search needs)
     (λ c. search needs)
+    (λ c κs. search needs)
+    (λ c. search needs)
+    (λ c. search needs)
+    (λ c. search needs)
     (λ c. search needs)
     returns
-    returns-2)
+    returns-2
+    returns-3
+    returns-4)

@@ -1,28 +1,48 @@
--- `showing::show` meets its contract: no panel has more pixels than there is room for, and the other buffers are lent as zeros.
+-- `showing::show` meets its contract: the front of what is lent is cut to the panel's size, and what lies behind it stays.
 use mathlib.Core.Path.{refl}
-use Prim.Native.Nat.{ℕ}
-use lib.IntN.{ℤ, pos}
-use Rattle.showing.proofs.Zeros.{length-part, room-read, lent-zeros}
+use Rattle.controller.specs.World.{Buffers, buffers}
+use Rattle.showing.proofs.Fitted.{length-front, size-read, fits-cut, left-by}
 use borrow.Author.Needs.{needs}
 use Rattle.showing.proofs.show.Statement.{statement}
 use Rattle.showing.proofs.show.Tie as tie
 
-slice-aggregate-play-in-2 : tie.Need-slice-aggregate-play-in-2
-slice-aggregate-play-in-2 c = length-part {A = ℤ} _ 8000 (pos 0) (c .before .before .before .before .pixels .ensures .1)
+slice-aggregate-show-in-2 : tie.Need-slice-aggregate-show-in-2
+slice-aggregate-show-in-2 c = length-front _ _ (c .before .before .before .before .before .before .cut .ensures .1)
 
-slice-aggregate-play-in-3 : tie.Need-slice-aggregate-play-in-3
-slice-aggregate-play-in-3 c = length-part {A = ℕ} _ 8000 0 (c .before .before .before .before .before .pixels .ensures .1)
+slice-aggregate-show-in-3 : tie.Need-slice-aggregate-show-in-3
+slice-aggregate-show-in-3 c = length-front _ _ (c .before .before .before .before .before .before .cut2 .ensures .1)
 
-slice-aggregate-play-in-4 : tie.Need-slice-aggregate-play-in-4
-slice-aggregate-play-in-4 c = length-part {A = ℕ} _ 8000 0 (c .before .before .before .before .before .before .pixels .ensures .1)
+slice-aggregate-show-in-4 : tie.Need-slice-aggregate-show-in-4
+slice-aggregate-show-in-4 c = length-front _ _ (c .before .before .before .before .before .before .cut3 .ensures .1)
 
-play-in-requires : tie.Need-play-in-requires
-play-in-requires c κs =
-    let sized = c .before .before .before .before .before .before .before in
-    let taken = sized .before .before in
-    let a = taken .before .before .before .before .args in
-    let n = room-read (a .file .now) _ _ (taken .read .ensures .config-is) (sized .pixels .ensures .0) in
-    (taken .read .ensures, (lent-zeros (a .file .now) (a .old .now) (a .new .now) _ 8000 n (sized .pixels .ensures .1), refl))
+show-in-requires : tie.Need-show-in-requires
+show-in-requires c κs =
+    let third = c .before .before .before .before .before .before .before in
+    let second = third .before in
+    let first = second .before in
+    let counted = first .before in
+    let taken = counted .before .before in
+    let start = taken .before .before .before .before .before .before .before in
+    let a = start .args in
+    let b : Buffers = buffers (a .old .now) (a .new .now) (a .states .now) (a .numbers .now) (a .picture .now) (a .rows .now) in
+    let p = size-read (a .file .now) _ _ (taken .read .ensures .config-is) (counted .pixels .ensures) in (
+      taken .read .ensures,
+      (fits-cut (a .file .now) b _ _ _ _ p (first .cut .ensures .0) (second .cut2 .ensures .0) (third .cut3 .ensures .0), refl),
+    )
+
+returns : tie.Need-returns
+returns c =
+    let third = c .before .before .before .before .before .before .before .before .before .before .before .before .before .before .before .before .before .before .before .before in
+    let second = third .before in
+    let first = second .before in
+    let counted = first .before in
+    let taken = counted .before .before in
+    let start = taken .before .before .before .before .before .before .before in
+    let a = start .args in
+    let b : Buffers = buffers (a .old .now) (a .new .now) (a .states .now) (a .numbers .now) (a .picture .now) (a .rows .now) in
+    let p = size-read (a .file .now) _ _ (taken .read .ensures .config-is) (counted .pixels .ensures) in
+    left-by (a .file .now) b _ _ _ _ p (first .cut .ensures .0) (second .cut2 .ensures .0) (third .cut3 .ensures .0) (a .form) _
+    (c .before .before .before .before .before .before .before .before .before .before .before .before .show-in .ensures)
 
 pub show-spec : {M : Type 1} → statement M
 show-spec =
@@ -30,15 +50,21 @@ show-spec =
     (tie.spec
     (λ c κs. search needs)
     (λ c κs. search needs)
+    (λ c κs. search needs)
+    (λ c κs. search needs)
+    (λ c κs. search needs)
     (λ c. search needs)
     (λ c. search needs)
-    slice-aggregate-play-in-2
+    slice-aggregate-show-in-2
     (λ c. search needs)
-    slice-aggregate-play-in-3
+    slice-aggregate-show-in-3
     (λ c. search needs)
-    slice-aggregate-play-in-4
+    slice-aggregate-show-in-4
+    show-in-requires
     (λ c. search needs)
-    play-in-requires
     (λ c. search needs)
     (λ c. search needs)
-    (λ c. search needs))
+    (λ c. search needs)
+    (λ c. search needs)
+    (λ c. search needs)
+    returns)

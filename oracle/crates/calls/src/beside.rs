@@ -3,12 +3,13 @@
 use chips::lines::ONE_GIGAHERTZ;
 use chips::uc8253::{PanelImage, RefreshKind, Uc8253};
 use emu_core::{Cycles, Level};
+use jollanqe::raw::Image;
+use jollanqe::{Answer, Panel, Refused};
 use oracle::capture::{Capture, Configuration, Event};
 use oracle::log::Log;
 use oracle::refusal::Refusal;
 use oracle::rows::{self, KIND_WORDS};
 use oracle::run;
-use ours::{HandedImage, NO_READ, NOTHING, Ours, Refused};
 
 use crate::difference::{Difference, same};
 use crate::memory::{self, Seen};
@@ -28,7 +29,7 @@ pub struct Before {
 }
 
 pub struct Beside {
-    pub ours: Ours,
+    pub ours: Panel,
     pub rust: Uc8253,
     /// The same chip, but its rows are taken after every event: they are what the event reported,
     /// which `rust` hands out only where its own rows are taken.
@@ -49,17 +50,28 @@ pub enum Made {
     Neither(u8),
 }
 
+/// The library's panel of a configuration.
+fn panel(configuration: &Configuration) -> Result<Panel, Refused> {
+    let capture = Capture {
+        configuration: configuration.clone(),
+        events: Vec::new(),
+    };
+    let (configuration, _) = jollanqe::read_capture(&capture.encode())?;
+    Panel::new(&configuration)
+}
+
 fn chip(configuration: &Configuration) -> Result<Uc8253, Refusal> {
     Ok(Uc8253::new(configuration.chip(), ONE_GIGAHERTZ)?)
 }
 
 /// A read's answer as the library numbers it.
 pub fn answer_number(answer: run::Answer) -> u16 {
-    match answer {
-        None => NO_READ,
-        Some(None) => NOTHING,
-        Some(Some(byte)) => u16::from(byte),
-    }
+    let answer = match answer {
+        None => Answer::NoRead,
+        Some(None) => Answer::Nothing,
+        Some(Some(byte)) => Answer::Byte(byte),
+    };
+    answer.number()
 }
 
 fn kind_number(kind: RefreshKind) -> u8 {
@@ -81,7 +93,7 @@ pub fn deadline(chip: &Uc8253) -> Option<u64> {
 /// Width, height, generation, kind, interruption, start and end.
 type Facts = (u16, u16, u64, u8, bool, u64, u64);
 
-fn our_facts(image: &HandedImage) -> Facts {
+fn our_facts(image: &Image) -> Facts {
     (
         image.width,
         image.height,
@@ -107,15 +119,10 @@ fn rust_facts(image: &PanelImage) -> Facts {
 
 impl Beside {
     pub fn make(configuration: &Configuration) -> Result<Made, Difference> {
-        let capture = Capture {
-            configuration: configuration.clone(),
-            events: Vec::new(),
-        };
-        let made = Ours::make(&capture.encode(), configuration.pixels() as usize);
-        let (ours, rust) = match (made, chip(configuration)) {
+        let (ours, rust) = match (panel(configuration), chip(configuration)) {
             (Ok(ours), Ok(rust)) => (ours, rust),
             (made, rust) => {
-                let refused = made.err().map(|Refused(number)| number);
+                let refused = made.err().map(Refused::number);
                 let number = rust.err().map(Refusal::number);
                 same("refusal of making", refused, number)?;
                 return Ok(Made::Neither(number.unwrap_or_default()));
@@ -138,10 +145,11 @@ impl Beside {
     }
 
     fn look(&mut self) {
+        let cursor = self.ours.record().active.cursor;
         self.before = Before {
             generation: self.rust.panel_image().generation,
             deadline: deadline(&self.rust),
-            cursor: self.ours.cursor(),
+            cursor: (cursor.x, cursor.y),
         };
     }
 
@@ -159,7 +167,8 @@ impl Beside {
     /// An event by its own call.
     pub fn single(&mut self, event: Event) -> Result<(), Difference> {
         self.look();
-        let given = self.ours.event(event.time, event.kind, event.value)?;
+        let ours = jollanqe::Event::listed(event.time, event.kind, event.value)?;
+        let given = self.ours.event(ours)?.number();
         same("byte read", given, self.rust_step(event))?;
         self.compare(event.time)
     }
@@ -172,7 +181,7 @@ impl Beside {
             step.event.encode(&mut bytes);
         }
         let mut answers = vec![UNANSWERED; steps.len()];
-        self.ours.run(&bytes, &mut answers)?;
+        self.ours.run_bytes(&bytes, &mut answers)?;
         for (index, (step, given)) in steps.iter().zip(answers).enumerate() {
             let answer = self.rust_step(step.event);
             same("byte read in a run", (index, given), (index, answer))?;
@@ -236,14 +245,10 @@ impl Beside {
     }
 
     fn compare_rows(&mut self) -> Result<(), Difference> {
-        same(
-            "stored rows",
-            usize::from(self.ours.stored()),
-            self.log.stored.len(),
-        )?;
+        same("stored rows", self.ours.rows().len(), self.log.stored.len())?;
         for row in self.compared..self.log.stored.len() {
             let must = self.log.stored[row];
-            same("row", (row, self.ours.row(row)), (row, must))?;
+            same("row", (row, self.ours.rows()[row]), (row, must))?;
         }
         self.compared = self.log.stored.len();
         if self.log.left_out == 0 {

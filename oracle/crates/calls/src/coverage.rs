@@ -215,7 +215,7 @@ impl Coverage {
 
     /// A refresh that began with this command.
     fn begun(&mut self, beside: &Beside) {
-        let registers = beside.ours.registers();
+        let registers = &beside.ours.record().regs;
         let (mode, interval) = (registers.psr[0], registers.cdi[0]);
         let first_batch = beside.rust.config().variant == chips::uc8253::Variant::Uc8253;
         let white = if first_batch { 1 } else { 1 << 4 };
@@ -247,7 +247,8 @@ impl Coverage {
         }
         let elapsed = image.at.get() - image.started.get();
         if image.interrupted {
-            self.add(RESETS, cut_word(elapsed, beside.ours.period()), 1);
+            let period = beside.ours.record().waveform.frame_ns;
+            self.add(RESETS, cut_word(elapsed, period), 1);
             self.add_if(image.at.get() + 1 == end, RESETS, "one before the end");
         } else {
             self.add_if(event.time == end, RESETS, "at the end");

@@ -2,7 +2,7 @@
 
 use std::fmt::Debug;
 
-use ours::Refused;
+use jollanqe::{Refused, RunError};
 
 #[derive(Clone, Debug)]
 pub struct Difference {
@@ -25,10 +25,16 @@ pub fn same<T: PartialEq + Debug>(what: &'static str, ours: T, rust: T) -> Resul
 
 /// A call that the Rust took and the library refused.
 impl From<Refused> for Difference {
-    fn from(Refused(number): Refused) -> Difference {
+    fn from(refused: Refused) -> Difference {
+        RunError::Refused(refused).into()
+    }
+}
+
+impl From<RunError> for Difference {
+    fn from(error: RunError) -> Difference {
         Difference {
             what: "refusal",
-            ours: number.to_string(),
+            ours: error.to_string(),
             rust: "none".to_string(),
         }
     }

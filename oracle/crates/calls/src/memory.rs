@@ -2,7 +2,7 @@
 //! every bit now and then.
 
 use chips::uc8253::{self, RAM_GATES, RAM_SOURCES, Uc8253};
-use ours::{Ours, PLANE_BYTES, Plane};
+use jollanqe::{PLANE_BYTES, Panel, Plane};
 
 use crate::difference::{Difference, same};
 
@@ -39,7 +39,7 @@ pub fn plane_bytes(chip: &Uc8253, plane: Plane) -> Vec<u8> {
         .collect()
 }
 
-fn compare_byte(ours: &Ours, rust: &Uc8253, plane: Plane, at: usize) -> Result<(), Difference> {
+fn compare_byte(ours: &Panel, rust: &Uc8253, plane: Plane, at: usize) -> Result<(), Difference> {
     let (byte, row) = ((at % ROW_BYTES) as u16, (at / ROW_BYTES) as u16);
     let place = |bits: u8| (plane, 8 * byte, row, bits);
     same(
@@ -50,7 +50,7 @@ fn compare_byte(ours: &Ours, rust: &Uc8253, plane: Plane, at: usize) -> Result<(
 }
 
 /// Every bit of both planes.
-pub fn compare_all(ours: &Ours, rust: &Uc8253) -> Result<(), Difference> {
+pub fn compare_all(ours: &Panel, rust: &Uc8253) -> Result<(), Difference> {
     for plane in PLANES {
         for at in 0..PLANE_BYTES {
             compare_byte(ours, rust, plane, at)?;
@@ -60,7 +60,7 @@ pub fn compare_all(ours: &Ours, rust: &Uc8253) -> Result<(), Difference> {
 }
 
 /// The bytes around a place, its neighbours in the row and the rows beside it.
-pub fn compare_around(ours: &Ours, rust: &Uc8253, place: (u16, u16)) -> Result<(), Difference> {
+pub fn compare_around(ours: &Panel, rust: &Uc8253, place: (u16, u16)) -> Result<(), Difference> {
     let (column, row) = (usize::from(place.0 / 8), usize::from(place.1));
     for plane in PLANES {
         for row in row.saturating_sub(1)..=row + 1 {
@@ -77,7 +77,7 @@ pub fn compare_around(ours: &Ours, rust: &Uc8253, place: (u16, u16)) -> Result<(
 
 /// The question for a bit: at a place, and at or past one of the RAM's ends.
 pub fn compare_questions(
-    ours: &Ours,
+    ours: &Panel,
     rust: &Uc8253,
     place: (u16, u16),
     turn: usize,
@@ -104,7 +104,7 @@ impl Seen {
     }
 
     /// Each byte of ours that changed is the Rust's; they are seen from now on.
-    pub fn compare_changed(&mut self, ours: &Ours, rust: &Uc8253) -> Result<(), Difference> {
+    pub fn compare_changed(&mut self, ours: &Panel, rust: &Uc8253) -> Result<(), Difference> {
         for (plane, seen) in PLANES.into_iter().zip(&mut self.planes) {
             let bytes = ours.plane(plane);
             if bytes == seen {

@@ -6,10 +6,11 @@ use std::io;
 use std::path::Path;
 
 use chips::uc8253::Uc8253;
+use jollanqe::Plane;
 use oracle::capture::{Capture, Event, MOST_EVENTS};
+use oracle::cases;
 use oracle::log::Log;
 use oracle::run;
-use ours::Plane;
 
 use crate::beside::{answer_number, deadline, is_low};
 use crate::memory::plane_bytes;
@@ -98,7 +99,15 @@ fn fits(capture: &Capture, most: usize) -> bool {
     (1..=most).contains(&capture.events.len()) && run::accept(&capture.encode()).is_ok()
 }
 
-/// The captures of the sample: one with more rows than are kept, then short ones of each kind.
+/// A table load of 61 bytes, whose second row is left out.
+fn long_load() -> Option<Capture> {
+    let cases = cases::all();
+    let case = cases.iter().find(|case| case.name == "table-61-bytes")?;
+    Capture::read(&case.file).ok()
+}
+
+/// The captures of the sample: one with more rows than are kept, one with a load that is too long,
+/// then short ones of each kind.
 fn captures() -> Vec<Capture> {
     let crowded = (0..)
         .map(traces::crowded)
@@ -106,7 +115,12 @@ fn captures() -> Vec<Capture> {
     let short = (0..)
         .map(traces::short)
         .filter(|capture| fits(capture, MOST_EVENTS_OF_MANY));
-    crowded.into_iter().chain(short).take(TRACES).collect()
+    crowded
+        .into_iter()
+        .chain(long_load())
+        .chain(short)
+        .take(TRACES)
+        .collect()
 }
 
 pub fn bytes() -> Vec<u8> {

@@ -1,7 +1,6 @@
 //! The sample read back by its layout and replayed on the library.
 
-use oracle::capture::{Capture, TRAILER_BYTES, Trailer};
-use ours::{Ours, Plane};
+use jollanqe::{Panel, Plane, read_capture};
 
 use crate::sample;
 
@@ -21,22 +20,20 @@ fn number(bytes: &mut &[u8], count: usize) -> u64 {
 fn replay(sample: &mut &[u8]) {
     let length = number(sample, 4) as usize;
     let file = cut(sample, length);
-    let count = Trailer::decode(&file[file.len() - TRAILER_BYTES..]).count as usize;
-    let capture = Capture::read(file).expect("a sound capture");
-    assert_eq!(count, capture.events.len());
-    let mut ours = Ours::make(file, capture.configuration.pixels() as usize).expect("made");
-    for (index, event) in capture.events.iter().enumerate() {
-        let answer = ours.event(event.time, event.kind, event.value);
-        assert_eq!(answer.map(u64::from), Ok(number(sample, 2)));
-        assert_eq!(ours.busy(event.time), Ok(number(sample, 1) == 1));
+    let (configuration, events) = read_capture(file).expect("a sound capture");
+    let mut ours = Panel::new(&configuration).expect("made");
+    for (index, &event) in events.iter().enumerate() {
+        let answer = ours.event(event).expect("taken").number();
+        assert_eq!(u64::from(answer), number(sample, 2));
+        assert_eq!(ours.busy(event.at), Ok(number(sample, 1) == 1));
         let known = number(sample, 1) == 1;
         let deadline = number(sample, 8);
         assert_eq!(ours.deadline(), Ok(known.then_some(deadline)));
-        assert_eq!(u64::from(ours.stored()), number(sample, 2));
+        assert_eq!(ours.rows().len() as u64, number(sample, 2));
         assert_eq!(ours.dropped() & 0xFFFF, number(sample, 2));
         assert_eq!(ours.image().generation & 0xFFFF_FFFF, number(sample, 4));
         let planes = [Plane::Old, Plane::New].map(|plane| ours.plane(plane));
-        let digested = index % 16 == 15 || index + 1 == count;
+        let digested = index % 16 == 15 || index + 1 == events.len();
         let digest = if digested { sample::digest(planes) } else { 0 };
         assert_eq!(u64::from(digest), number(sample, 4));
     }

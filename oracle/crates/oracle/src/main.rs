@@ -5,14 +5,18 @@ use std::path::Path;
 use std::process::ExitCode;
 
 use oracle::{
-    against::Comparison, answers, cases, generate, list, picture, replays, run, stats, trace,
+    against::Comparison, answers, cases, generate, jobs, list, page, picture, replays, run, stats,
+    trace,
 };
 
-const USAGE: &str = "usage: oracle run | trace | list | picture   (a capture on standard input)
+const USAGE: &str = "usage: oracle run | trace | list   (a capture on standard input)
+       oracle lines | pgm | png   (the same, for a panel of any size)
+       oracle page
        oracle make SEED
        oracle stats SEED N
        oracle answers SEED LEVELS GREYS REFRESHES
        oracle replays SEED N DIR
+       oracle jobs DIR
        oracle cases DIR | check DIR
        oracle compare PANEL N SEED
        oracle damaged PANEL SECONDS SEED
@@ -54,7 +58,10 @@ fn obey(words: &[&str]) -> io::Result<ExitCode> {
         ["run"] => say(run::run(&input()?))?,
         ["trace"] => say(trace::trace(&input()?))?,
         ["list"] => say(list::list(&input()?))?,
-        ["picture"] => say(picture::picture(&input()?))?,
+        ["lines"] => say(jobs::lines(&input()?))?,
+        ["pgm"] => say(picture::pgm(&input()?))?,
+        ["png"] => say(picture::png(&input()?))?,
+        ["page"] => say(page::page())?,
         ["make", seed] => say(generate::make(number(seed)?))?,
         ["stats", seed, count] => say(stats::stats(number(seed)?, number(count)?))?,
         ["answers", seed, levels, greys, refreshes] => say(answers::answers(
@@ -66,6 +73,7 @@ fn obey(words: &[&str]) -> io::Result<ExitCode> {
         ["replays", seed, count, directory] => {
             replays::write(number(seed)?, number(count)?, Path::new(directory))?;
         }
+        ["jobs", directory] => jobs::write(Path::new(directory))?,
         ["cases", directory] => cases::write(Path::new(directory))?,
         ["check", directory] => {
             let (text, equal) = cases::check(Path::new(directory))?;

@@ -23,6 +23,18 @@ pub fn make(configuration: &Configuration) -> Result<Uc8253, Refusal> {
     Ok(chip)
 }
 
+/// The chip of a configuration of any size up to 800 by 600, or refusals 1 to 4.
+pub fn make_any(configuration: &Configuration) -> Result<Uc8253, Refusal> {
+    Ok(Uc8253::new(configuration.chip(), ONE_GIGAHERTZ)?)
+}
+
+/// What a word of `jollanqe` plays: the tests of the program without 10.
+pub fn accept_any(file: &[u8]) -> Result<(Capture, Uc8253), Refusal> {
+    let capture = Capture::read(file)?;
+    let chip = make_any(&capture.configuration)?;
+    Ok((capture, chip))
+}
+
 /// The capture and its chip at making, or the first refusal in the program's order.
 pub fn accept(file: &[u8]) -> Result<(Capture, Uc8253), Refusal> {
     let capture = Capture::read(file)?;

@@ -26,13 +26,13 @@ returns c =
     let a = start .args in
     let b : Buffers = buffers (a .old .now) (a .new .now) (a .states .now) (a .numbers .now) (a .picture .now) (a .rows .now) in
     let e = made .play .ensures in
-    let n = program-number (a .file .now) (a .c) (start .pre) _ (tested .refusal .ensures) in
+    let n = program-number (a .file .now) (a .c) (start .pre) (a .form) _ (tested .refusal .ensures) in
     let h = told (made .before .before .before .before .before .before .before .before .before .before .before .none .ensures) n (made .before .before .before .before .before .before .before .before .before .before .if1 .taken) in (
       (
-        play-yes (a .file .now) (a .c) (start .pre) b h _ (e .0 .0),
-        play-yes-number (a .file .now) (a .c) (start .pre) b h _ (e .0 .1),
+        play-yes (a .file .now) (a .c) (start .pre) (a .form) b h _ (e .0 .0),
+        play-yes-number (a .file .now) (a .c) (start .pre) (a .form) b h _ (e .0 .1),
       ),
-      play-yes-answers (a .file .now) (a .c) (start .pre) b h (a .answers .now) _ (e .1),
+      play-yes-answers (a .file .now) (a .c) (start .pre) (a .form) b h (a .answers .now) _ (e .1),
     )
 
 returns-2 : tie.Need-returns-2
@@ -41,10 +41,13 @@ returns-2 c =
     let start = tested .before .before .before .before .before .before .before .before in
     let a = start .args in
     let b : Buffers = buffers (a .old .now) (a .new .now) (a .states .now) (a .numbers .now) (a .picture .now) (a .rows .now) in
-    let n = program-number (a .file .now) (a .c) (start .pre) _ (tested .refusal .ensures) in
+    let n = program-number (a .file .now) (a .c) (start .pre) (a .form) _ (tested .refusal .ensures) in
     let h = told (c .before .before .none .ensures) n (c .before .if1 .left) in (
-      (play-no (a .file .now) b h _ (ap (λ (p : Uc8253). world p b) (c .zeros .ensures)), play-no-number (a .file .now) b h _ n),
-      play-no-answers (a .file .now) b h (a .answers .now),
+      (
+        play-no (a .form) (a .file .now) b h _ (ap (λ (p : Uc8253). world p b) (c .zeros .ensures)),
+        play-no-number (a .form) (a .file .now) b h _ n,
+      ),
+      play-no-answers (a .form) (a .file .now) b h (a .answers .now),
     )
 
 pub play-spec : {M : Type 1} → statement M

@@ -1,11 +1,9 @@
 -- `showing::write::write_parts` meets what it calls asks: each part is units of the output. The measure is the units that are left.
 use mathlib.Core.Path.{_≡_, sym, ap, _∙_}
-use mathlib.Core.List.{List}
-use Prim.Native.Nat.{ℕ, _-_, _≤_, _<_}
+use Prim.Native.Nat.{_-_}
 use native.Mathlib.Omega.{arith}
 use lib.ListN.{length}
 use lib.Seq.{length-take-le}
-use Rattle.output.specs.Units.{unitsOf}
 use Rattle.output.specs.Parts.{unitsFrom}
 use Rattle.output.proofs.PartLaws.{part-is, part-within, part-on}
 use borrow.Author.Needs.{needs}
@@ -13,10 +11,10 @@ use Rattle.showing.proofs.write.write_parts.Statement.{statement}
 use Rattle.showing.proofs.write.write_parts.Tie as tie
 
 abbrev Inv-loop : tie.InvT-loop
-Inv-loop text₀ file form old new o events answers picture rows end from₀ t16 text from = length text ≡ length text₀
+Inv-loop text₀ file form fd sizes o events answers picture rows end from₀ text from = length text ≡ length text₀
 
 abbrev μ-loop : tie.MeasureT-loop
-μ-loop text₀ file form old new o events answers picture rows end from₀ t16 text from = end - from
+μ-loop text₀ file form fd sizes o events answers picture rows end from₀ text from = end - from
 
 slice-reshare-prefix-emit : tie.Need-slice-reshare-prefix-emit Inv-loop μ-loop
 slice-reshare-prefix-emit c = part-within (c .before .before .before .next-part .ensures)
@@ -28,10 +26,9 @@ emit-requires : tie.Need-emit-requires Inv-loop μ-loop
 emit-requires c κs =
     let turn = c .before .before .before .before .before .before .before in
     let start = turn .before .before .before .before .before .before .before .before in
-    let p = start .pre in
     let from = turn .loop .from in
     let next = c .before .before .before .before .next-part .result .next in
-    part-is (c .before .before .before .before .next-part .ensures) ∙ ap (unitsFrom from (next - from)) p
+    part-is (c .before .before .before .before .next-part .ensures) ∙ ap (unitsFrom from (next - from)) (start .pre)
 
 loop-less : tie.Need-loop-less Inv-loop μ-loop
 loop-less c =
@@ -44,8 +41,6 @@ write-parts-spec =
     (tie.spec
     Inv-loop
     μ-loop
-    (λ c κs. search needs)
-    (λ c. search needs)
     (λ c κs. search needs)
     (λ c. search needs)
     (λ c κs. search needs)

@@ -3,7 +3,7 @@
 use chips::uc8253::{Plane, RAM_GATES};
 
 use crate::planes::{self, Planes};
-use crate::{cases, generate, log, picture, replays, run, stats, trace};
+use crate::{cases, generate, jobs, log, picture, replays, run, stats, trace};
 
 /// Digests that are kept are those taken anew over the whole planes.
 #[test]
@@ -107,11 +107,11 @@ fn the_stored_sample_is_the_written_one() {
     assert!(crate_file("test_captures/stdout") == sample.output.as_bytes());
 }
 
-/// The graymap's bytes are the greys that `run` prints, and the stored one is the Rust's.
+/// The graymap's bytes are the greys that `lines` prints.
 #[test]
 fn a_graymap_holds_the_greys() {
-    let file = crate_file("picture/stdin");
-    let text = run::run(&file);
+    let file = crate_file("jollanqe/data/upright.capture");
+    let text = jobs::lines(&file);
     let mut rows = text.lines().skip_while(|line| !line.starts_with("image"));
     let head: Vec<&str> = rows.next().unwrap_or_default().split(' ').collect();
     let mut bytes = format!("P5\n{} {}\n255\n", head[1], head[2]).into_bytes();
@@ -119,8 +119,19 @@ fn a_graymap_holds_the_greys() {
         row.split(' ')
             .map(|grey| grey.parse::<u8>().expect("a grey"))
     }));
-    assert_eq!(picture::picture(&file), bytes);
-    assert_eq!(crate_file("picture/stdout"), bytes);
+    assert_eq!(picture::pgm(&file), bytes);
+}
+
+/// The batch of `jollanqe` is the written one.
+#[test]
+fn the_stored_batch_is_the_written_one() {
+    let directory = std::env::temp_dir().join(format!("jobs-{}", std::process::id()));
+    jobs::write(&directory).expect("it can be written");
+    for name in ["stdin", "stdout"] {
+        let written = std::fs::read(directory.join(name)).expect("it was written");
+        assert!(crate_file(&format!("jollanqe/{name}")) == written, "{name}");
+    }
+    std::fs::remove_dir_all(directory).expect("it is ours");
 }
 
 #[test]

@@ -1,0 +1,36 @@
+// What the program says of itself.
+use libc::STDERR_FILENO;
+use libc::STDOUT_FILENO;
+
+fn line(text: &[u8]) {
+    io::write_all(STDOUT_FILENO, text);
+}
+
+// Every word.
+pub fn say() {
+    line(b"jollanqe: what an e-paper controller and its glass make of a capture\n");
+    line(b"\n");
+    line(b"  jollanqe help                 this\n");
+    line(b"  jollanqe lines FILE           reads, diagnostics and the last picture, as text\n");
+    line(b"  jollanqe pgm FILE             the last picture as a graymap (Netpbm P5)\n");
+    line(b"  jollanqe png FILE             the last picture as a PNG file\n");
+    line(
+        b"  jollanqe                      jobs from standard input, one a line, as above without\n",
+    );
+    line(
+        b"                                the first word; '> NAME' at a line's end writes there\n",
+    );
+    line(b"\n");
+    line(b"A FILE that is - is standard input, but not in a line of the batch. Panels go up to\n");
+    line(
+        b"800 by 600. A capture that is turned back gives 'refused N' on standard output and the\n",
+    );
+    line(b"words on standard error; no file is written for it. docs/FORMAT.md has the format.\n");
+}
+
+// What a word wanted, with an example.
+pub fn wanted(text: &[u8]) {
+    io::write_all(STDERR_FILENO, b"jollanqe: ");
+    io::write_all(STDERR_FILENO, text);
+    io::write_all(STDERR_FILENO, b"\n");
+}

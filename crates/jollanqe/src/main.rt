@@ -1,0 +1,144 @@
+// One program with a word for each job: `jollanqe help` says all of them. With no word it reads jobs
+// from standard input, one a line.
+mod files;
+mod help;
+mod job;
+mod words;
+
+use files::Reading;
+use input::front;
+use libc::STDERR_FILENO;
+use libc::STDIN_FILENO;
+use log::ROWS;
+use showing::INPUT;
+
+// The pixels of the largest panel, 800 by 600.
+const PIXELS: usize = 480_000;
+
+// The bytes of a job's line.
+const LINE: usize = 8_192;
+
+// A line of the batch, in which blanks stand between the words: they become zeros, as between
+// arguments.
+fn separate(line: &mut [u8]) {
+    let mut i: usize = 0;
+    while i < line.len() {
+        line[i] = words::unblank(line[i]);
+        i += 1;
+    }
+}
+
+// The next job of standard input, and whether there was one.
+fn next_job(
+    line: &mut [u8],
+    file: &mut [u8],
+    old: &mut [u8],
+    new: &mut [u8],
+    states: &mut [i64],
+    numbers: &mut [u8],
+    picture: &mut [u8],
+    rows: &mut [u64],
+) -> bool {
+    let got = files::read_line(STDIN_FILENO, line);
+    match got {
+        Reading::Line(n) => {
+            separate(line);
+            job::run(
+                front(line, n),
+                true,
+                file,
+                old,
+                new,
+                states,
+                numbers,
+                picture,
+                rows,
+            );
+            true
+        }
+        Reading::TooLong => {
+            io::write_all(STDERR_FILENO, b"a line is longer than 8,192 bytes\n");
+            true
+        }
+        Reading::End => false,
+        Reading::Failed => {
+            os::fail(b"standard input");
+            false
+        }
+    }
+}
+
+// The jobs of standard input, in turn. Nothing says that an input ends, so the turns are counted.
+fn batch(
+    line: &mut [u8],
+    file: &mut [u8],
+    old: &mut [u8],
+    new: &mut [u8],
+    states: &mut [i64],
+    numbers: &mut [u8],
+    picture: &mut [u8],
+    rows: &mut [u64],
+) {
+    let mut turns = base::TOP;
+    while 0 < turns {
+        if !next_job(line, file, old, new, states, numbers, picture, rows) {
+            return;
+        }
+        turns -= 1;
+    }
+}
+
+// The arguments as a line, a zero behind each; the answer is how many bytes it has.
+fn gather(line: &mut [u8]) -> usize {
+    let count = os::arg_count();
+    let mut space = io::buffer();
+    let mut held: usize = 0;
+    let mut i: usize = 1;
+    while i < count {
+        let n = os::arg(i, &mut space);
+        if os::errno() != 0 {
+            os::fail(b"arguments");
+            return 0;
+        }
+        held = text::put(line, held, front(&space, n));
+        held = text::byte(line, held, 0);
+        i += 1;
+    }
+    held
+}
+
+fn main() {
+    let mut line = [0u8; LINE];
+    let mut file = [0u8; INPUT];
+    let mut old = [0u8; 60000];
+    let mut new = [0u8; 60000];
+    let mut states = [0i64; PIXELS];
+    let mut numbers = [0u8; PIXELS];
+    let mut picture = [0u8; PIXELS];
+    let mut rows = [0u64; ROWS];
+    if os::arg_count() <= 1 {
+        batch(
+            &mut line,
+            &mut file,
+            &mut old,
+            &mut new,
+            &mut states,
+            &mut numbers,
+            &mut picture,
+            &mut rows,
+        );
+        return;
+    }
+    let n = gather(&mut line);
+    job::run(
+        front(&line, n),
+        false,
+        &mut file,
+        &mut old,
+        &mut new,
+        &mut states,
+        &mut numbers,
+        &mut picture,
+        &mut rows,
+    );
+}

@@ -1,0 +1,23 @@
+-- `reasons::wording::length_words` meets its contract: the length, and then what it should be.
+use Rattle.text.proofs.Filling.{puts-then}
+use borrow.Author.Needs.{needs}
+use Rattle.reasons.proofs.wording.length_words.Statement.{statement}
+use Rattle.reasons.proofs.wording.length_words.Tie as tie
+
+returns : tie.Need-returns
+returns c =
+    let second = c .before .before in
+    let first = second .before .before .before .before in
+    puts-then (first .between .ensures) (second .grouped .ensures)
+
+pub length-words-spec : {M : Type 1} → statement M
+length-words-spec =
+    tie.close
+    (tie.spec
+    (λ c. search needs)
+    (λ c. search needs)
+    (λ c κs. search needs)
+    (λ c. search needs)
+    (λ c κs. search needs)
+    (λ c. search needs)
+    returns)

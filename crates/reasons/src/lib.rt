@@ -1,0 +1,13 @@
+// The words of a refusal, for a person who must find the fault in a capture file: which test of 8 or 9
+// failed first and where, and the text that says so.
+mod causes;
+mod events;
+mod finding;
+mod groups;
+mod wording;
+
+pub use causes::Reason;
+pub use finding::reason;
+pub use groups::grouped;
+pub use wording::because;
+pub use wording::words;

@@ -1,0 +1,267 @@
+//! What a Rust host can get wrong, each with its outcome; and the worked example of docs/FORMAT.md.
+
+use jollanqe::{
+    Answer, Configuration, Event, Panel, Parts, Plane, Refused, RunError, Variant, What,
+    read_capture, write_capture,
+};
+
+const SWING: u64 = 28_000_000;
+
+/// 8 by 1 pixels, of which a frame of the usual level is half a swing.
+fn small() -> Configuration {
+    Configuration {
+        rows_reversed: false,
+        sources: 8,
+        gates: 1,
+        initial_grey: 0,
+        ambient: 0,
+        full_swing: SWING,
+        power_on: 100,
+        power_off: 0,
+        deep_sleep: 0,
+        soft_reset: 0,
+        hardware_reset: 0,
+        frame_periods: [1_000; 32],
+        ..Configuration::x3(Variant::Uc8253)
+    }
+}
+
+/// Four pixels are being driven from black to white, from 100 to 3,100.
+fn refreshing() -> Panel {
+    let mut panel = Panel::new(&small()).expect("made");
+    let mut send = |at, command, data: &[u8]| panel.send(at, command, data).expect("taken");
+    send(0, 0x00, &[0x3F]);
+    send(0, 0x04, &[]);
+    send(100, 0x22, &[0x80, 1, 0, 0, 0, 1]);
+    send(100, 0x13, &[0xF0]);
+    send(100, 0x12, &[]);
+    panel
+}
+
+fn numbers<T>(result: Result<T, Refused>) -> (u8, &'static str) {
+    result.err().map_or((0, ""), |no| (no.number(), no.word()))
+}
+
+/// Every call, each on a panel of its own.
+type Call = fn(&mut Panel) -> Result<(), Refused>;
+const LATE: u64 = 5_000;
+const CALLS: [Call; 7] = [
+    |panel| panel.command(LATE, 0x12),
+    |panel| panel.data(LATE, 7),
+    |panel| panel.read(LATE).map(drop),
+    |panel| panel.reset(LATE, true),
+    |panel| panel.reset(LATE, false),
+    |panel| panel.advance(LATE),
+    |panel| panel.send(LATE, 0x10, &[1, 2, 3]),
+];
+
+/// Every call on these parts is refused by a number and changes nothing.
+fn refused(number: u8, word: &str, change: impl Fn(&mut Parts)) {
+    let mut parts = refreshing().into_parts();
+    change(&mut parts);
+    for call in CALLS {
+        let mut panel = Panel::from_parts(parts.clone());
+        assert_eq!(numbers(call(&mut panel)), (number, word));
+        assert_eq!(*panel.parts(), parts);
+    }
+}
+
+#[test]
+fn the_worked_example() {
+    let mut panel = refreshing();
+    assert_eq!(panel.deadline(), Ok(Some(3_100)));
+    assert_eq!(panel.busy(3_099), Ok(true));
+    assert_eq!(panel.busy(3_100), Ok(false));
+    panel.advance(3_100).expect("taken");
+    assert_eq!(panel.deadline(), Ok(None));
+    assert_eq!(panel.picture(), [128, 128, 128, 128, 0, 0, 0, 0]);
+    assert_eq!(panel.picture_row(0), panel.picture());
+    assert_eq!(panel.picture_row(1), []);
+    assert_eq!(panel.graymap()[..11], *b"P5\n8 1\n255\n");
+    let image = panel.image();
+    assert_eq!((image.generation, image.started, image.at), (1, 100, 3_100));
+    assert_eq!(panel.bit(Plane::New, 3, 0), Ok(Some(true)));
+    assert_eq!(panel.bit(Plane::New, 4, 0), Ok(Some(false)));
+    assert_eq!(panel.bit(Plane::Old, 3, 0), Ok(Some(false)));
+    assert_eq!(panel.bit(Plane::Old, 800, 0), Ok(None));
+    assert_eq!(panel.rows(), [[100, 13, 34, 6, 0]]);
+    assert_eq!(panel.take(), Ok(vec![[100, 13, 34, 6, 0]]));
+    assert_eq!((panel.rows().len(), panel.dropped()), (0, 0));
+}
+
+#[test]
+fn a_configuration_out_of_range_is_refused_by_1_to_4() {
+    let made = |change: fn(&mut Configuration)| {
+        let mut configuration = small();
+        change(&mut configuration);
+        numbers(Panel::new(&configuration))
+    };
+    assert_eq!(made(|of| of.sources = 0), (1, "empty panel"));
+    assert_eq!(made(|of| of.gates = 601), (2, "oversized panel"));
+    assert_eq!(made(|of| of.sources = 65_535), (2, "oversized panel"));
+    assert_eq!(made(|of| of.full_swing = 0), (3, "swing"));
+    assert_eq!(made(|of| of.full_swing = 1 << 63), (3, "swing"));
+    assert_eq!(made(|of| of.frame_periods[31] = 0), (4, "frame period"));
+}
+
+#[test]
+fn a_short_or_a_long_buffer_is_refused_by_5() {
+    let word = "buffer length";
+    refused(5, word, |parts| parts.old.truncate(59_999));
+    refused(5, word, |parts| parts.old.push(0));
+    refused(5, word, |parts| parts.new.clear());
+    refused(5, word, |parts| parts.states.truncate(7));
+    refused(5, word, |parts| parts.numbers.push(1));
+    refused(5, word, |parts| parts.picture.clear());
+    refused(5, word, |parts| parts.rows.truncate(5_119));
+    refused(5, word, |parts| parts.record.panel.sources = 16);
+    let mut parts = refreshing().into_parts();
+    parts.rows.truncate(3);
+    parts.old.truncate(3);
+    let mut panel = Panel::from_parts(parts);
+    assert_eq!(numbers(panel.take()), (5, word));
+    assert_eq!(numbers(panel.bit(Plane::Old, 0, 0)), (5, word));
+    assert!(panel.rows().is_empty());
+}
+
+#[test]
+fn a_foreign_record_is_refused_by_6() {
+    let word = "foreign record";
+    refused(6, word, |parts| parts.record.panel.gates = 0);
+    refused(6, word, |parts| parts.record.regs.window.x1 = 800);
+    refused(6, word, |parts| parts.record.log.stored = 1_025);
+    refused(6, word, |parts| parts.record.waveform.frame_ns = 0);
+    let mut parts = refreshing().into_parts();
+    parts.record.timing.frame_period[7] = 0;
+    let panel = Panel::from_parts(parts);
+    assert_eq!(numbers(panel.busy(0)), (6, word));
+    assert_eq!(numbers(panel.deadline()), (6, word));
+    assert_eq!(numbers(panel.bit(Plane::New, 0, 0)), (6, word));
+}
+
+#[test]
+fn foreign_contents_are_refused_by_7() {
+    let word = "foreign contents";
+    refused(7, word, |parts| parts.states[7] = -1);
+    refused(7, word, |parts| parts.states[0] = SWING as i64 + 1);
+    refused(7, word, |parts| parts.numbers[3] = 5);
+    let mut parts = refreshing().into_parts();
+    parts.numbers[0] = 0;
+    assert_eq!(Panel::from_parts(parts).advance(3_099), Ok(()));
+}
+
+#[test]
+fn a_run_that_is_refused_in_part_goes_on() {
+    let mut parts = refreshing().into_parts();
+    parts.states[0] = -1;
+    let mut panel = Panel::from_parts(parts);
+    let advance = |at| Event {
+        at,
+        what: What::Advance,
+    };
+    let ran = panel.run(&[advance(LATE), advance(300)]);
+    assert_eq!(numbers(ran), (7, "foreign contents"));
+    assert_eq!(panel.record().now, 300);
+}
+
+#[test]
+fn ragged_bytes_are_no_events() {
+    let mut panel = refreshing();
+    let before = panel.clone();
+    let event = Event {
+        at: LATE,
+        what: What::Advance,
+    };
+    let bytes = event.bytes();
+    for length in 1..10 {
+        let ran = panel.run_bytes(&bytes[..length], &mut [0]);
+        assert_eq!(ran, Err(RunError::Ragged(length)));
+    }
+    assert_eq!(panel, before);
+    assert_eq!(panel.run_bytes(&[], &mut []), Ok(()));
+    assert_eq!(panel, before);
+    assert_eq!(panel.run_bytes(&bytes, &mut []), Ok(()));
+    assert_eq!(panel.image().generation, 1);
+}
+
+#[test]
+fn a_kind_that_is_not_listed_does_nothing() {
+    let mut panel = refreshing();
+    let before = panel.clone();
+    for kind in (0..=0).chain(6..=255) {
+        let bytes = [0xFF, 0, 0, 0, 0, 0, 0, 0xFF, kind, 1];
+        let mut answers = [0];
+        assert_eq!(panel.run_bytes(&bytes, &mut answers), Ok(()));
+        assert_eq!(answers, [Answer::NoRead.number()]);
+        assert_eq!(numbers(Event::listed(0, kind, 0)), (9, "bad event"));
+    }
+    assert_eq!(panel, before);
+    assert_eq!(numbers(Event::listed(0, 3, 1)), (9, "bad event"));
+    assert_eq!(numbers(Event::listed(0, 4, 2)), (9, "bad event"));
+    assert_eq!(numbers(Event::listed(0, 5, 1)), (9, "bad event"));
+}
+
+#[test]
+fn a_run_is_its_calls() {
+    let configuration = Configuration {
+        variant: Variant::Uc8279d,
+        ..small()
+    };
+    let whats = [
+        What::Command(0x71),
+        What::Read,
+        What::Read,
+        What::Data(3),
+        What::Reset(true),
+        What::Reset(false),
+        What::Advance,
+    ];
+    let events: Vec<Event> = (0..)
+        .zip(whats)
+        .map(|(at, what)| Event { at, what })
+        .collect();
+    let mut one = Panel::new(&configuration).expect("made");
+    let mut other = one.clone();
+    let answers = one.run(&events).expect("taken");
+    let single: Result<Vec<_>, _> = events.iter().map(|&event| other.event(event)).collect();
+    assert_eq!(Ok(&answers), single.as_ref());
+    assert_eq!(
+        answers[..3],
+        [Answer::NoRead, Answer::Byte(0x13), Answer::Nothing]
+    );
+    assert_eq!(one, other);
+}
+
+#[test]
+fn a_capture_is_written_and_read() {
+    let events = [What::Read, What::Reset(true), What::Data(9)].map(|what| Event { at: 7, what });
+    let file = write_capture(&small(), &events);
+    assert_eq!(read_capture(&file), Ok((small(), events.to_vec())));
+    let broken = (8, "broken capture");
+    for length in 0..file.len() {
+        assert_eq!(numbers(read_capture(&file[..length])), broken);
+    }
+    let changed = |at: usize, byte: u8| {
+        let mut file = file.clone();
+        file[at] = byte;
+        numbers(read_capture(&file))
+    };
+    assert_eq!(changed(file.len() - 8, 31), broken);
+    assert_eq!(changed(file.len() - 4, 4), broken);
+    let bad = (9, "bad event");
+    assert_eq!(changed(30, 2), bad); // the variant
+    assert_eq!(changed(31, 8), bad); // a flag
+    assert_eq!(changed(8, 6), bad); // a kind
+    assert_eq!(changed(9, 1), bad); // a value
+}
+
+#[test]
+fn a_refusal_says_what_it_is() {
+    let mut configuration = small();
+    configuration.gates = 0;
+    let refused = Panel::new(&configuration).expect_err("empty");
+    assert_eq!(refused.to_string(), "refused 1: empty panel");
+    let ragged = RunError::Ragged(9).to_string();
+    assert_eq!(ragged, "9 bytes are no whole events of 10");
+    assert_eq!(RunError::from(refused).to_string(), refused.to_string());
+}
