@@ -3,7 +3,7 @@ use input::Input;
 use input::read_all;
 use libc::STDIN_FILENO;
 
-pub enum Reading {
+pub(crate) enum Reading {
     // A line of so many bytes, without its end.
     Line(usize),
     TooLong,
@@ -13,7 +13,7 @@ pub enum Reading {
 
 // What reading a file gave: so many bytes at the buffer's start; and how many there are in all,
 // where that is more.
-pub enum Got {
+pub(crate) enum Got {
     Bytes(usize, u64),
     // It could not be opened or read, which was said.
     Failed,
@@ -37,7 +37,7 @@ fn byte(fd: i32) -> u16 {
 }
 
 // The next line of an input; of one that is too long the rest is passed over.
-pub fn read_line(fd: i32, line: &mut [u8]) -> Reading {
+pub(crate) fn read_line(fd: i32, line: &mut [u8]) -> Reading {
     let mut held: usize = 0;
     let mut some = false;
     let mut turns = base::TOP;
@@ -121,7 +121,7 @@ fn read_from(fd: i32, name: &[u8], buffer: &mut [u8]) -> Got {
 }
 
 // The bytes of a file; `-` is standard input.
-pub fn read(name: &[u8], buffer: &mut [u8]) -> Got {
+pub(crate) fn read(name: &[u8], buffer: &mut [u8]) -> Got {
     if crate::words::same(name, b"-") {
         return read_from(STDIN_FILENO, b"standard input", buffer);
     }

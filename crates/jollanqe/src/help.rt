@@ -7,7 +7,7 @@ fn line(text: &[u8]) {
 }
 
 // Every word.
-pub fn say() {
+pub(crate) fn say() {
     line(b"jollanqe: what an e-paper controller and its glass make of a capture\n");
     line(b"\n");
     line(b"  jollanqe help                 this\n");
@@ -29,7 +29,7 @@ pub fn say() {
 }
 
 // What a word wanted, with an example.
-pub fn wanted(text: &[u8]) {
+pub(crate) fn wanted(text: &[u8]) {
     io::write_all(STDERR_FILENO, b"jollanqe: ");
     io::write_all(STDERR_FILENO, text);
     io::write_all(STDERR_FILENO, b"\n");

@@ -14,7 +14,7 @@ use showing::Form;
 use showing::show;
 use showing::tested;
 
-pub enum Word {
+pub(crate) enum Word {
     Help,
     Lines,
     Pgm,
@@ -222,7 +222,7 @@ fn one_file(
 }
 
 // The job of a line.
-pub fn run(
+pub(crate) fn run(
     line: &[u8],
     in_batch: bool,
     file: &mut [u8],

@@ -8,7 +8,7 @@ fn is_blank(b: u8) -> bool {
 }
 
 // A blank becomes a zero.
-pub fn unblank(b: u8) -> u8 {
+pub(crate) fn unblank(b: u8) -> u8 {
     if is_blank(b) {
         return 0;
     }
@@ -40,7 +40,7 @@ fn end(line: &[u8], from: usize) -> usize {
 }
 
 // Word k, from 0; empty where there are not so many.
-pub fn word(line: &[u8], k: usize) -> &[u8] {
+pub(crate) fn word(line: &[u8], k: usize) -> &[u8] {
     let mut from = begin(line, 0);
     let mut left = k;
     while 0 < left {
@@ -57,7 +57,7 @@ pub fn word(line: &[u8], k: usize) -> &[u8] {
 }
 
 // How many words there are, and no more than eight.
-pub fn count(line: &[u8]) -> usize {
+pub(crate) fn count(line: &[u8]) -> usize {
     let mut k: usize = 0;
     while k < 8 {
         if word(line, k).len() == 0 {
@@ -68,7 +68,7 @@ pub fn count(line: &[u8]) -> usize {
     k
 }
 
-pub fn same(a: &[u8], b: &[u8]) -> bool {
+pub(crate) fn same(a: &[u8], b: &[u8]) -> bool {
     if a.len() != b.len() {
         return false;
     }
