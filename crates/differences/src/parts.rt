@@ -38,7 +38,8 @@ pub fn finding_part(
     picture_b: &[u8],
 ) -> usize
     ensures { λ r. ⌜ Puts (rule.findingPart finding (now («events_a» .entry)) (now («events_b» .entry)) (now («rows_a» .entry))
-        (now («rows_b» .entry)) width (now («picture_a» .entry)) (now («picture_b» .entry))) held r (now (text .entry)) (now (text .exit)) ⌝ }
+        (now («rows_b» .entry)) width (now («picture_a» .entry)) (now («picture_b» .entry)))
+        held r (now (text .entry)) (now (text .exit)) ⌝ }
 {
     match finding {
         Finding::Event(i) => event_line(text, held, events_a, events_b, i),
