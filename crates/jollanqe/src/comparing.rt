@@ -113,6 +113,27 @@ fn agrees(config: Place, finding: Finding) -> bool {
     }
 }
 
+// What differs first; the pixels of panels of the same size count.
+fn find(
+    same: bool,
+    events_a: &[u8],
+    events_b: &[u8],
+    rows_a: &[u64],
+    rows_b: &[u64],
+    picture_a: &[u8],
+    picture_b: &[u8],
+) -> Finding {
+    let pixels = if same { picture_a.len() } else { 0 };
+    differences::find(
+        events_a,
+        events_b,
+        rows_a,
+        rows_b,
+        front(picture_a, pixels),
+        front(picture_b, pixels),
+    )
+}
+
 // What is said of the two; the pictures are those of their panels.
 fn report(
     text: &mut [u8],
@@ -127,22 +148,19 @@ fn report(
     let b = capture::read(file_b);
     let panel_a = a.config;
     let panel_b = b.config;
-    let pixels = if same_size(panel_a, panel_b) {
-        picture_a.len()
-    } else {
-        0
-    };
     let events_a = front(file_a, a.end);
     let events_b = front(file_b, b.end);
     let config_a = config_at(file_a, a.end);
     let config_b = config_at(file_b, b.end);
-    let finding = differences::find(
+    let same = same_size(panel_a, panel_b);
+    let finding = find(
+        same,
         events_a,
         events_b,
         rows_a,
         rows_b,
-        front(picture_a, pixels),
-        front(picture_b, pixels),
+        picture_a,
+        picture_b,
     );
     if agrees(differences::first_byte(config_a, config_b), finding) {
         return differences::agreement(text, 0);

@@ -12,7 +12,8 @@ use text::put;
 
 // `DIR/GENERATION.png`
 fn file_name(text: &mut [u8], held: usize, dir: &[u8], generation: u64) -> usize
-    ensures { λ r. ⌜ Puts (now (dir .entry) ++ ascii "/" ++ digits generation ++ ascii ".png") held r (now (text .entry)) (now (text .exit)) ⌝ }
+    ensures { λ r. ⌜ Puts (now (dir .entry) ++ ascii "/" ++ digits generation ++ ascii ".png")
+        held r (now (text .entry)) (now (text .exit)) ⌝ }
 {
     let folder = put(text, held, dir);
     let slash = put(text, folder, b"/");
