@@ -15,6 +15,15 @@ pub(crate) fn say() {
     line(b"  jollanqe pgm FILE             the last picture as a graymap (Netpbm P5)\n");
     line(b"  jollanqe png FILE             the last picture as a PNG file\n");
     line(
+        b"  jollanqe pictures FILE DIR    every picture, as DIR/GENERATION.png, with a line each\n",
+    );
+    line(
+        b"  jollanqe cuts FILE            the refreshes that reset cut: when, after how many whole\n",
+    );
+    line(b"                                frames, of how many\n");
+    line(b"  jollanqe compare FILE FILE    the first event, row or pixel in which two captures\n");
+    line(b"                                differ, and how many pixels do\n");
+    line(
         b"  jollanqe                      jobs from standard input, one a line, as above without\n",
     );
     line(

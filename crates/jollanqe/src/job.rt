@@ -1,24 +1,20 @@
-// One job: a word and its files.
-use crate::files;
-use crate::files::Got;
+// One job: a word, its files, and where it writes.
+use crate::comparing;
 use crate::help;
+use crate::replay::Watch;
+use crate::task;
+use crate::task::Task;
 use crate::words::count;
 use crate::words::same;
 use crate::words::word;
-use base::Refusal;
-use input::front;
-use libc::STDERR_FILENO;
-use libc::STDOUT_FILENO;
-use reasons::Reason;
 use showing::Form;
-use showing::show;
-use showing::tested;
 
 pub(crate) enum Word {
     Help,
-    Lines,
-    Pgm,
-    Png,
+    // A task on one capture.
+    Task(Task),
+    Pictures,
+    Compare,
     Unknown,
 }
 
@@ -27,147 +23,32 @@ fn sort(w: &[u8]) -> Word {
         return Word::Help;
     }
     if same(w, b"lines") {
-        return Word::Lines;
+        return Word::Task(Task::Show(Form::Lines));
     }
     if same(w, b"pgm") {
-        return Word::Pgm;
+        return Word::Task(Task::Show(Form::Graymap));
     }
     if same(w, b"png") {
-        return Word::Png;
+        return Word::Task(Task::Show(Form::Png));
+    }
+    if same(w, b"cuts") {
+        return Word::Task(Task::Watch(Watch::Cuts));
+    }
+    if same(w, b"pictures") {
+        return Word::Pictures;
+    }
+    if same(w, b"compare") {
+        return Word::Compare;
     }
     Word::Unknown
 }
 
-// Why the file was turned back; of a file that is larger than the buffer, by its real size.
-fn why(file: &[u8], bytes: u64) -> Reason {
-    if file.len() as u64 != bytes {
-        return Reason::Long(bytes);
-    }
-    reasons::reason(file)
-}
-
-// The words of a refusal, on standard error behind the file's name.
-fn tell(name: &[u8], file: &[u8], bytes: u64, refused: Refusal) {
-    let mut text = [0u8; 256];
-    let n = reasons::words(&mut text, 0, refused.number());
-    let m = reasons::because(&mut text, n, why(file, bytes));
-    io::write_all(STDERR_FILENO, name);
-    io::write_all(STDERR_FILENO, b": ");
-    io::write_all(STDERR_FILENO, front(&text, m));
-    io::write_all(STDERR_FILENO, b"\n");
-}
-
-// A capture that is not turned back, written to the file of that name, or to standard output where
-// there is none.
-fn write(
-    form: Form,
-    capture: &[u8],
-    out: &[u8],
-    old: &mut [u8],
-    new: &mut [u8],
-    states: &mut [i64],
-    numbers: &mut [u8],
-    picture: &mut [u8],
-    rows: &mut [u64],
-) {
-    if out.len() == 0 {
-        if !show(
-            capture,
-            form,
-            STDOUT_FILENO,
-            old,
-            new,
-            states,
-            numbers,
-            picture,
-            rows,
-        ) {
-            os::fail(b"standard output");
-        }
-        return;
-    }
-    let fd = os::open_overwrite(out);
-    if fd < 0 {
-        os::fail(out);
-        return;
-    }
-    if !show(capture, form, fd, old, new, states, numbers, picture, rows) {
-        os::fail(out);
-    }
-    libc::close(fd);
-}
-
-// A capture of so many bytes in all, of which the first ones were read.
-fn judge(
-    form: Form,
-    name: &[u8],
-    capture: &[u8],
-    bytes: u64,
-    out: &[u8],
-    old: &mut [u8],
-    new: &mut [u8],
-    states: &mut [i64],
-    numbers: &mut [u8],
-    picture: &mut [u8],
-    rows: &mut [u64],
-) {
-    let refused = tested(form, capture);
-    if refused.none() {
-        write(form, capture, out, old, new, states, numbers, picture, rows);
-        return;
-    }
-    if !show(
-        capture,
-        form,
-        STDOUT_FILENO,
-        old,
-        new,
-        states,
-        numbers,
-        picture,
-        rows,
-    ) {
-        os::fail(b"standard output");
-    }
-    tell(name, capture, bytes, refused);
-}
-
-// The capture of that name.
-fn capture(
-    form: Form,
-    name: &[u8],
-    out: &[u8],
-    file: &mut [u8],
-    old: &mut [u8],
-    new: &mut [u8],
-    states: &mut [i64],
-    numbers: &mut [u8],
-    picture: &mut [u8],
-    rows: &mut [u64],
-) {
-    let got = files::read(name, file);
-    match got {
-        Got::Bytes(n, bytes) => {
-            judge(
-                form,
-                name,
-                front(file, n),
-                bytes,
-                out,
-                old,
-                new,
-                states,
-                numbers,
-                picture,
-                rows,
-            );
-        }
-        Got::Failed => {}
-    }
-}
-
 // How many words a job of the batch has before `> NAME`, if that ends it.
-fn before_target(line: &[u8], n: usize) -> usize {
+fn before_target(line: &[u8], in_batch: bool) -> usize {
+    let n = count(line);
+    if !in_batch {
+        return n;
+    }
     if n < 3 {
         return n;
     }
@@ -177,8 +58,30 @@ fn before_target(line: &[u8], n: usize) -> usize {
     n
 }
 
+// The name behind `>`; empty where there is none.
+fn target(line: &[u8], in_batch: bool) -> &[u8] {
+    let n = count(line);
+    if before_target(line, in_batch) < n {
+        return word(line, n - 1);
+    }
+    &line[0..0]
+}
+
+// Whether a job of the batch names standard input, which is the batch itself.
+fn takes_batch(name: &[u8], in_batch: bool) -> bool {
+    if !in_batch {
+        return false;
+    }
+    if same(name, b"-") {
+        help::wanted(b"standard input is the batch itself: name a file");
+        return true;
+    }
+    false
+}
+
+// A word of one file.
 fn one_file(
-    form: Form,
+    task: Task,
     line: &[u8],
     in_batch: bool,
     file: &mut [u8],
@@ -189,27 +92,19 @@ fn one_file(
     picture: &mut [u8],
     rows: &mut [u64],
 ) {
-    let n = count(line);
-    let m = if in_batch { before_target(line, n) } else { n };
-    if m != 2 {
+    if before_target(line, in_batch) != 2 {
         help::wanted(b"this word wants one file, as in: jollanqe png night.capture");
         return;
     }
     let name = word(line, 1);
-    if in_batch {
-        if same(name, b"-") {
-            help::wanted(b"standard input is the batch itself: name a file");
-            return;
-        }
+    if takes_batch(name, in_batch) {
+        return;
     }
-    let out = if m < n {
-        word(line, n - 1)
-    } else {
-        &line[0..0]
-    };
-    capture(
-        form,
+    let out = target(line, in_batch);
+    task::run(
+        task,
         name,
+        &line[0..0],
         out,
         file,
         old,
@@ -221,8 +116,8 @@ fn one_file(
     );
 }
 
-// The job of a line.
-pub(crate) fn run(
+// A file and a folder.
+fn into_folder(
     line: &[u8],
     in_batch: bool,
     file: &mut [u8],
@@ -233,14 +128,116 @@ pub(crate) fn run(
     picture: &mut [u8],
     rows: &mut [u64],
 ) {
+    if before_target(line, in_batch) != 3 {
+        help::wanted(
+            b"pictures wants a file and a folder, as in: jollanqe pictures night.capture night",
+        );
+        return;
+    }
+    let name = word(line, 1);
+    if takes_batch(name, in_batch) {
+        return;
+    }
+    let dir = word(line, 2);
+    let out = target(line, in_batch);
+    task::run(
+        Task::Watch(Watch::Pictures),
+        name,
+        dir,
+        out,
+        file,
+        old,
+        new,
+        states,
+        numbers,
+        picture,
+        rows,
+    );
+}
+
+// Whether both files are standard input, which can be read once.
+fn both_input(a: &[u8], b: &[u8]) -> bool {
+    if !same(a, b"-") {
+        return false;
+    }
+    if same(b, b"-") {
+        help::wanted(b"standard input can be one of the two files, not both");
+        return true;
+    }
+    false
+}
+
+// Two files.
+fn two_files(
+    line: &[u8],
+    in_batch: bool,
+    file: &mut [u8],
+    other: &mut [u8],
+    old: &mut [u8],
+    new: &mut [u8],
+    states: &mut [i64],
+    numbers: &mut [u8],
+    picture: &mut [u8],
+    other_picture: &mut [u8],
+    rows: &mut [u64],
+    other_rows: &mut [u64],
+) {
+    if before_target(line, in_batch) != 3 {
+        help::wanted(b"compare wants two files, as in: jollanqe compare good.capture bad.capture");
+        return;
+    }
+    let a = word(line, 1);
+    if takes_batch(a, in_batch) {
+        return;
+    }
+    let b = word(line, 2);
+    if takes_batch(b, in_batch) {
+        return;
+    }
+    if both_input(a, b) {
+        return;
+    }
+    let out = target(line, in_batch);
+    comparing::run(
+        a,
+        b,
+        out,
+        file,
+        other,
+        old,
+        new,
+        states,
+        numbers,
+        picture,
+        other_picture,
+        rows,
+        other_rows,
+    );
+}
+
+// The job of a line.
+pub(crate) fn run(
+    line: &[u8],
+    in_batch: bool,
+    file: &mut [u8],
+    other: &mut [u8],
+    old: &mut [u8],
+    new: &mut [u8],
+    states: &mut [i64],
+    numbers: &mut [u8],
+    picture: &mut [u8],
+    other_picture: &mut [u8],
+    rows: &mut [u64],
+    other_rows: &mut [u64],
+) {
     if count(line) == 0 {
         return;
     }
     let w = sort(word(line, 0));
     match w {
         Word::Help => help::say(),
-        Word::Lines => one_file(
-            Form::Lines,
+        Word::Task(task) => one_file(
+            task,
             line,
             in_batch,
             file,
@@ -251,8 +248,7 @@ pub(crate) fn run(
             picture,
             rows,
         ),
-        Word::Pgm => one_file(
-            Form::Graymap,
+        Word::Pictures => into_folder(
             line,
             in_batch,
             file,
@@ -263,17 +259,19 @@ pub(crate) fn run(
             picture,
             rows,
         ),
-        Word::Png => one_file(
-            Form::Png,
+        Word::Compare => two_files(
             line,
             in_batch,
             file,
+            other,
             old,
             new,
             states,
             numbers,
             picture,
+            other_picture,
             rows,
+            other_rows,
         ),
         Word::Unknown => help::wanted(b"no such word: jollanqe help says all of them"),
     }

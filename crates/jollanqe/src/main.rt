@@ -1,8 +1,14 @@
 // One program with a word for each job: `jollanqe help` says all of them. With no word it reads jobs
 // from standard input, one a line.
+mod comparing;
 mod files;
 mod help;
 mod job;
+mod outputs;
+mod pictures;
+mod refusals;
+mod replay;
+mod task;
 mod words;
 
 use files::Reading;
@@ -18,6 +24,9 @@ const PIXELS: usize = 480_000;
 // The bytes of a job's line.
 const LINE: usize = 8_192;
 
+// Room for a word of such a line and for what is put beside it, so that no name is cut short.
+pub(crate) const ROOM: usize = LINE + 64;
+
 // A line of the batch, in which blanks stand between the words: they become zeros, as between
 // arguments.
 fn separate(line: &mut [u8]) {
@@ -28,31 +37,43 @@ fn separate(line: &mut [u8]) {
     }
 }
 
+// The next line of standard input.
+fn next_line(line: &mut [u8]) -> Reading {
+    let got = files::read_line(STDIN_FILENO, line);
+    separate(line);
+    got
+}
+
 // The next job of standard input, and whether there was one.
 fn next_job(
     line: &mut [u8],
     file: &mut [u8],
+    other: &mut [u8],
     old: &mut [u8],
     new: &mut [u8],
     states: &mut [i64],
     numbers: &mut [u8],
     picture: &mut [u8],
+    other_picture: &mut [u8],
     rows: &mut [u64],
+    other_rows: &mut [u64],
 ) -> bool {
-    let got = files::read_line(STDIN_FILENO, line);
+    let got = next_line(line);
     match got {
         Reading::Line(n) => {
-            separate(line);
             job::run(
                 front(line, n),
                 true,
                 file,
+                other,
                 old,
                 new,
                 states,
                 numbers,
                 picture,
+                other_picture,
                 rows,
+                other_rows,
             );
             true
         }
@@ -72,16 +93,31 @@ fn next_job(
 fn batch(
     line: &mut [u8],
     file: &mut [u8],
+    other: &mut [u8],
     old: &mut [u8],
     new: &mut [u8],
     states: &mut [i64],
     numbers: &mut [u8],
     picture: &mut [u8],
+    other_picture: &mut [u8],
     rows: &mut [u64],
+    other_rows: &mut [u64],
 ) {
     let mut turns = base::TOP;
     while 0 < turns {
-        if !next_job(line, file, old, new, states, numbers, picture, rows) {
+        if !next_job(
+            line,
+            file,
+            other,
+            old,
+            new,
+            states,
+            numbers,
+            picture,
+            other_picture,
+            rows,
+            other_rows,
+        ) {
             return;
         }
         turns -= 1;
@@ -110,22 +146,28 @@ fn gather(line: &mut [u8]) -> usize {
 fn main() {
     let mut line = [0u8; LINE];
     let mut file = [0u8; INPUT];
+    let mut other = [0u8; INPUT];
     let mut old = [0u8; 60000];
     let mut new = [0u8; 60000];
     let mut states = [0i64; PIXELS];
     let mut numbers = [0u8; PIXELS];
     let mut picture = [0u8; PIXELS];
+    let mut other_picture = [0u8; PIXELS];
     let mut rows = [0u64; ROWS];
+    let mut other_rows = [0u64; ROWS];
     if os::arg_count() <= 1 {
         batch(
             &mut line,
             &mut file,
+            &mut other,
             &mut old,
             &mut new,
             &mut states,
             &mut numbers,
             &mut picture,
+            &mut other_picture,
             &mut rows,
+            &mut other_rows,
         );
         return;
     }
@@ -134,11 +176,14 @@ fn main() {
         front(&line, n),
         false,
         &mut file,
+        &mut other,
         &mut old,
         &mut new,
         &mut states,
         &mut numbers,
         &mut picture,
+        &mut other_picture,
         &mut rows,
+        &mut other_rows,
     );
 }

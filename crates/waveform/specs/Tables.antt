@@ -59,6 +59,10 @@ abbrev pub longest : List (List Group) → ℕ
 longest [] = 0
 longest (t ∷ ts) = max (tableFrameCount t) (longest ts)
 
+-- longest table + 2
+abbrev pub refreshFrames : Waveform → ℕ
+refreshFrames w = longest (w .tables) + 2
+
 -- (longest table + 2) × period, held at 2^64 - 1
 abbrev pub durationOf : Waveform → ℕ
-durationOf w = min ((longest (w .tables) + 2) * w .«frame_ns») top
+durationOf w = min (refreshFrames w * w .«frame_ns») top

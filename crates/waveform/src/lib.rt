@@ -12,7 +12,7 @@ ghost use lib.IntN.{ℤ};
 ghost use Rattle.base.specs.Word.{top};
 ghost use Rattle.glass.specs.Transfer.{Acts};
 ghost use Rattle.waveform.specs.Levels.{levelsOf, levelOfCode};
-ghost use Rattle.waveform.specs.Tables.{groupOf, tableOf, tablesOf, waveformOf, sumOf, ends, running, tableFrameCount, durationOf};
+ghost use Rattle.waveform.specs.Tables.{groupOf, tableOf, tablesOf, waveformOf, sumOf, ends, running, tableFrameCount, refreshFrames, durationOf};
 ghost use Rattle.waveform.specs.Frames.{driveOf, vcomCodes, roundFrames, groupFrames, framesOf};
 ghost use Rattle.waveform.specs.InnerProgress.{Parts, Drives, Extends, framesUnder};
 use base::greatest;
@@ -394,17 +394,23 @@ impl Waveform {
         Waveform::of(decode(luts), levels, frame_ns)
     }
 
-    // How long the refresh drives the glass: the longest of the five LUTs, then two frames of
-    // VCOM_DC.
-    pub fn duration_ns(self) -> u64
-        ensures { λ r. ⌜ r ≡ durationOf self ⌝ }
+    // The frames of the refresh: those of the longest of the five LUTs, then two of VCOM_DC.
+    pub fn frames(self) -> u64
+        ensures { λ r. ⌜ r ≡ refreshFrames self ⌝ }
     {
         let tables = self.tables();
         let mut frames: u64 = 0;
         for k in 0..LUTS {
             frames = greatest(frames, table_frames(tables[k]));
         }
-        saturating_mul(frames + TAIL_FRAMES, self.frame_ns)
+        frames + TAIL_FRAMES
+    }
+
+    // How long the refresh drives the glass.
+    pub fn duration_ns(self) -> u64
+        ensures { λ r. ⌜ r ≡ durationOf self ⌝ }
+    {
+        saturating_mul(self.frames(), self.frame_ns)
     }
 
     // What table `lut` does to a state of 0 ..= swing over the first n frames of the refresh.

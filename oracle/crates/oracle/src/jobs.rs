@@ -5,10 +5,8 @@ use std::io;
 use std::path::Path;
 
 use crate::capture::Configuration;
-use crate::cases;
-use crate::picture;
-use crate::run;
 use crate::script::{Script, example_panel};
+use crate::{cases, cuts, differ, picture, run};
 
 /// What a word writes for a capture: as the program, without 10.
 pub fn lines(file: &[u8]) -> String {
@@ -38,7 +36,84 @@ fn large() -> Vec<u8> {
         .file()
 }
 
-/// The captures of the batch: small cases by name, and the large panel.
+/// A refresh of six frames from the clock on, on a panel that has its registers and its supplies.
+fn refresh(script: Script) -> Script {
+    script
+        .command(0x22, &[0x80, 0x04, 0x00, 0x00, 0x00, 0x01])
+        .command(0x13, &[0xF0])
+        .command(0x12, &[])
+}
+
+/// Out of reset at a time, and the supplies up 100 after it.
+fn again(script: Script, time: u64) -> Script {
+    script
+        .at(time)
+        .release_reset()
+        .command(0x00, &[0x3F])
+        .command(0x04, &[])
+        .at(time + 100)
+}
+
+/// Two refreshes cut, one after two whole frames and one a nanosecond before its end; a third that
+/// ends by itself in the very call that asserts reset; and reset asserted again.
+fn cut_twice() -> Vec<u8> {
+    let first = refresh(Script::new(example_panel()).power_up());
+    let second = refresh(again(first.at(3_099).assert_reset(), 5_000));
+    let third = refresh(again(second.at(11_099).assert_reset(), 12_000));
+    third
+        .at(18_100)
+        .assert_reset()
+        .at(19_000)
+        .assert_reset()
+        .file()
+}
+
+/// The example with another event, with an event less, with other configurations.
+fn variations() -> Vec<(&'static str, Vec<u8>)> {
+    let with = |panel: Configuration| {
+        let mut capture = cases::example().capture().clone();
+        capture.configuration = panel;
+        capture.encode()
+    };
+    let mut other = cases::example().capture().clone();
+    other.events[4].kind = 1;
+    let mut shorter = cases::example().capture().clone();
+    shorter.events.pop();
+    vec![
+        ("other-event", other.encode()),
+        ("shorter", shorter.encode()),
+        (
+            "grey",
+            with(Configuration {
+                initial_grey: 40,
+                ..example_panel()
+            }),
+        ),
+        (
+            "slow",
+            with(Configuration {
+                power_on: 5_000,
+                ..example_panel()
+            }),
+        ),
+        (
+            "ambient",
+            with(Configuration {
+                ambient: 25,
+                ..example_panel()
+            }),
+        ),
+        (
+            "wide",
+            with(Configuration {
+                sources: 16,
+                ..example_panel()
+            }),
+        ),
+    ]
+}
+
+/// The captures of the batch by name: the large panel and small cases.
 const CASES: [&str; 12] = [
     "example",
     "upright",
@@ -54,30 +129,117 @@ const CASES: [&str; 12] = [
     "empty-evening",
 ];
 
+/// Those that are asked for cuts and pictures.
+const REPLAYED: [&str; 9] = [
+    "cut-twice",
+    "reset-before-frame",
+    "reset-on-frame",
+    "reset-at-start",
+    "reset-at-end",
+    "example",
+    "large",
+    "refused-9-kind",
+    "empty-evening",
+];
+
+/// Those that are compared.
+const PAIRS: [[&str; 2]; 10] = [
+    ["example", "example"],
+    ["example", "other-event"],
+    ["example", "shorter"],
+    ["shorter", "example"],
+    ["example", "slow"],
+    ["example", "grey"],
+    ["example", "ambient"],
+    ["example", "wide"],
+    ["large", "cut-twice"],
+    ["refused-2", "refused-8"],
+];
+
+/// A batch as it grows: its captures, its lines, what it has to write.
+struct Batch {
+    files: Vec<(&'static str, Vec<u8>)>,
+    jobs: String,
+    output: Vec<u8>,
+}
+
+impl Batch {
+    fn file(&self, name: &str) -> &[u8] {
+        let found = self.files.iter().find(|(of, _)| *of == name);
+        &found.expect("a capture of that name").1
+    }
+
+    fn add(&mut self, job: &str, output: impl AsRef<[u8]>) {
+        self.jobs += &format!("{job}\n");
+        self.output.extend(output.as_ref());
+    }
+}
+
+fn captures() -> Vec<(&'static str, Vec<u8>)> {
+    let mut files = vec![("large", large()), ("cut-twice", cut_twice())];
+    files.extend(variations());
+    let resets = [
+        "reset-before-frame",
+        "reset-on-frame",
+        "reset-at-start",
+        "reset-at-end",
+    ];
+    let all = cases::all();
+    for name in CASES.into_iter().chain(resets) {
+        let case = all.iter().find(|case| case.name == name);
+        files.push((name, case.expect("a case of that name").file.clone()));
+    }
+    files
+}
+
+fn batch() -> Batch {
+    let mut batch = Batch {
+        files: captures(),
+        jobs: String::new(),
+        output: Vec::new(),
+    };
+    for name in ["large"].into_iter().chain(CASES) {
+        let file = batch.file(name).to_vec();
+        batch.add(&format!("lines {name}.capture"), lines(&file));
+        batch.add(&format!("pgm {name}.capture"), picture::pgm(&file));
+        batch.add(&format!("png {name}.capture"), picture::png(&file));
+    }
+    for name in REPLAYED {
+        let file = batch.file(name).to_vec();
+        batch.add(&format!("cuts {name}.capture"), cuts::cuts(&file));
+        batch.add(
+            &format!("pictures {name}.capture {name}"),
+            picture::heads(&file),
+        );
+    }
+    for pair in PAIRS {
+        let names = pair.map(|name| format!("{name}.capture"));
+        let [a, b] = [&names[0], &names[1]];
+        let output = differ::differ([a, b], pair.map(|name| batch.file(name)));
+        batch.add(&format!("compare {a} {b}"), output);
+    }
+    // a blank line, a word that is not there, files that are not there, standard input in a batch
+    for job in [
+        "",
+        "nothing",
+        "lines missing.capture",
+        "compare example.capture missing.capture",
+        "cuts -",
+        "pictures example.capture",
+    ] {
+        batch.add(job, "");
+    }
+    batch
+}
+
 /// Writes the batch, its captures and what it has to write.
 pub fn write(directory: &Path) -> io::Result<()> {
     let data = directory.join("data");
     fs::create_dir_all(&data)?;
-    let mut files = vec![("large", large())];
-    let all = cases::all();
-    for name in CASES {
-        let case = all.iter().find(|case| case.name == name);
-        files.push((name, case.expect("a case of that name").file.clone()));
-    }
-    let (mut jobs, mut output) = (String::new(), Vec::new());
-    for (name, file) in &files {
+    let batch = batch();
+    for (name, file) in &batch.files {
         fs::write(data.join(format!("{name}.capture")), file)?;
-        for word in ["lines", "pgm", "png"] {
-            jobs += &format!("{word} {name}.capture\n");
-            output.extend(match word {
-                "lines" => lines(file).into_bytes(),
-                "pgm" => picture::pgm(file),
-                _ => picture::png(file),
-            });
-        }
     }
-    // a blank line, a word that is not there, a file that is not there
-    jobs += "\nnothing\nlines missing.capture\n";
-    fs::write(directory.join("stdin"), jobs)?;
-    fs::write(directory.join("stdout"), output)
+    fs::write(directory.join("stdin"), &batch.jobs)?;
+    fs::write(directory.join("stdout"), &batch.output)
 }

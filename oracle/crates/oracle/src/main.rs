@@ -5,12 +5,14 @@ use std::path::Path;
 use std::process::ExitCode;
 
 use oracle::{
-    against::Comparison, answers, cases, generate, jobs, list, page, picture, replays, run, stats,
-    trace,
+    against::Comparison, answers, cases, cuts, differ, generate, jobs, list, page, picture,
+    replays, run, stats, trace,
 };
 
 const USAGE: &str = "usage: oracle run | trace | list   (a capture on standard input)
        oracle lines | pgm | png   (the same, for a panel of any size)
+       oracle cuts | pictures DIR   (the same)
+       oracle differ CAPTURE CAPTURE
        oracle page
        oracle make SEED
        oracle stats SEED N
@@ -61,6 +63,16 @@ fn obey(words: &[&str]) -> io::Result<ExitCode> {
         ["lines"] => say(jobs::lines(&input()?))?,
         ["pgm"] => say(picture::pgm(&input()?))?,
         ["png"] => say(picture::png(&input()?))?,
+        ["cuts"] => say(cuts::cuts(&input()?))?,
+        ["pictures", directory] => {
+            let file = input()?;
+            picture::write_all(&file, Path::new(directory))?;
+            say(picture::heads(&file))?;
+        }
+        ["differ", a, b] => {
+            let files = [std::fs::read(a)?, std::fs::read(b)?];
+            say(differ::differ([a, b], [&files[0], &files[1]]))?;
+        }
         ["page"] => say(page::page())?,
         ["make", seed] => say(generate::make(number(seed)?))?,
         ["stats", seed, count] => say(stats::stats(number(seed)?, number(count)?))?,

@@ -113,8 +113,9 @@ fn kind_word(kind: RefreshKind) -> &'static str {
     }
 }
 
-fn picture(image: &PanelImage) -> String {
-    let mut text = format!(
+/// The head of a picture.
+pub fn head(image: &PanelImage) -> String {
+    format!(
         "image {} {} {} {} {} {} {}\n",
         image.width,
         image.height,
@@ -123,7 +124,11 @@ fn picture(image: &PanelImage) -> String {
         u8::from(image.interrupted),
         image.started.get(),
         image.at.get(),
-    );
+    )
+}
+
+fn picture(image: &PanelImage) -> String {
+    let mut text = head(image);
     for row in image.pixels.chunks(usize::from(image.width)) {
         text += &words(row.iter().map(|&grey| u64::from(grey)));
         text.push('\n');

@@ -3,7 +3,7 @@
 use chips::uc8253::{Plane, RAM_GATES};
 
 use crate::planes::{self, Planes};
-use crate::{cases, generate, jobs, log, picture, replays, run, stats, trace};
+use crate::{cases, cuts, generate, jobs, log, picture, replays, run, stats, trace};
 
 /// Digests that are kept are those taken anew over the whole planes.
 #[test]
@@ -120,6 +120,15 @@ fn a_graymap_holds_the_greys() {
             .map(|grey| grey.parse::<u8>().expect("a grey"))
     }));
     assert_eq!(picture::pgm(&file), bytes);
+}
+
+/// Of three refreshes reset cuts two; the third ends by itself in the call that asserts reset.
+#[test]
+fn a_refresh_that_has_ended_is_not_cut() {
+    let file = crate_file("jollanqe/data/cut-twice.capture");
+    assert_eq!(cuts::cuts(&file), "cut 3099 2 6\ncut 11099 5 6\n");
+    let heads = picture::heads(&file);
+    assert_eq!(heads.lines().last(), Some("image 8 1 3 full 0 12100 18100"));
 }
 
 /// The batch of `jollanqe` is the written one.

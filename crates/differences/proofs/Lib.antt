@@ -1,0 +1,4 @@
+pub mod PlaceLaws
+pub mod ApartLaws
+pub mod LineLaws
+pub mod Example

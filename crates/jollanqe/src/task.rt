@@ -1,0 +1,178 @@
+// A task on one capture: its lines, its last picture, all its pictures, or its cuts.
+use crate::files;
+use crate::files::Got;
+use crate::outputs;
+use crate::pictures;
+use crate::refusals;
+use crate::replay;
+use crate::replay::Ended;
+use crate::replay::Watch;
+use input::front;
+use libc::STDOUT_FILENO;
+use showing::Form;
+use showing::show;
+use showing::tested;
+
+pub(crate) enum Task {
+    Show(Form),
+    Watch(Watch),
+}
+
+// Whether the output could be written, or what failed was said already.
+fn is_written(ended: Ended) -> bool {
+    match ended {
+        Ended::Whole => true,
+        Ended::Unwritten => false,
+        Ended::Said => true,
+    }
+}
+
+// A capture that is not turned back, to a descriptor; the answer is whether that could be written.
+fn write(
+    task: Task,
+    capture: &[u8],
+    dir: &[u8],
+    fd: i32,
+    old: &mut [u8],
+    new: &mut [u8],
+    states: &mut [i64],
+    numbers: &mut [u8],
+    picture: &mut [u8],
+    rows: &mut [u64],
+) -> bool {
+    match task {
+        Task::Show(form) => show(capture, form, fd, old, new, states, numbers, picture, rows),
+        Task::Watch(watch) => is_written(replay::replay(
+            watch,
+            capture,
+            dir,
+            fd,
+            old,
+            new,
+            states,
+            numbers,
+            picture,
+            rows,
+        )),
+    }
+}
+
+// Its folder, if it has one, and its output are made only here, once nothing turns the capture back.
+fn perform(
+    task: Task,
+    capture: &[u8],
+    dir: &[u8],
+    out: &[u8],
+    old: &mut [u8],
+    new: &mut [u8],
+    states: &mut [i64],
+    numbers: &mut [u8],
+    picture: &mut [u8],
+    rows: &mut [u64],
+) {
+    if dir.len() != 0 {
+        if !pictures::make(dir) {
+            return;
+        }
+    }
+    let fd = outputs::open(out);
+    if fd < 0 {
+        return;
+    }
+    let written = write(
+        task,
+        capture,
+        dir,
+        fd,
+        old,
+        new,
+        states,
+        numbers,
+        picture,
+        rows,
+    );
+    outputs::close(out, fd, written);
+}
+
+// A capture of so many bytes in all, of which the first ones were read.
+fn judge(
+    task: Task,
+    name: &[u8],
+    capture: &[u8],
+    bytes: u64,
+    dir: &[u8],
+    out: &[u8],
+    old: &mut [u8],
+    new: &mut [u8],
+    states: &mut [i64],
+    numbers: &mut [u8],
+    picture: &mut [u8],
+    rows: &mut [u64],
+) {
+    let refused = tested(Form::Lines, capture);
+    if refused.none() {
+        perform(
+            task,
+            capture,
+            dir,
+            out,
+            old,
+            new,
+            states,
+            numbers,
+            picture,
+            rows,
+        );
+        return;
+    }
+    if !show(
+        capture,
+        Form::Lines,
+        STDOUT_FILENO,
+        old,
+        new,
+        states,
+        numbers,
+        picture,
+        rows,
+    ) {
+        os::fail(b"standard output");
+    }
+    refusals::tell(name, capture, bytes, refused);
+}
+
+// The capture of that name; the folder is empty where the task has none.
+pub(crate) fn run(
+    task: Task,
+    name: &[u8],
+    dir: &[u8],
+    out: &[u8],
+    file: &mut [u8],
+    old: &mut [u8],
+    new: &mut [u8],
+    states: &mut [i64],
+    numbers: &mut [u8],
+    picture: &mut [u8],
+    rows: &mut [u64],
+) {
+    let got = files::read(name, file);
+    match got {
+        Got::Bytes(n, bytes) => {
+            judge(
+                task,
+                name,
+                front(file, n),
+                bytes,
+                dir,
+                out,
+                old,
+                new,
+                states,
+                numbers,
+                picture,
+                rows,
+            );
+        }
+        Got::Failed => {}
+    }
+}
