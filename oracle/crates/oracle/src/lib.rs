@@ -13,7 +13,7 @@ pub mod log;
 mod names;
 pub mod page;
 pub mod picture;
-mod png;
+pub mod png;
 pub mod planes;
 mod refreshes;
 pub mod refusal;
