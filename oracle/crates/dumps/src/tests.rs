@@ -1,0 +1,3 @@
+//! Tests: what was written is read.
+
+mod written;
