@@ -1,6 +1,7 @@
-//! Dumps of the analyser (2026-01): a plain reader that drives the published Rust, and a writer of
-//! dumps in many styles.
+//! Dumps of the analyser (2026-01): a plain reader that drives the published Rust, a writer of
+//! dumps in many styles, and dumps made by hand.
 
+pub mod cases;
 pub mod grammar;
 pub mod judge;
 pub mod list;

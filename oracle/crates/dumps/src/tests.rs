@@ -1,3 +1,4 @@
-//! Tests: what was written is read.
+//! Tests: what was written is read, and the hand-made dumps.
 
+mod made;
 mod written;

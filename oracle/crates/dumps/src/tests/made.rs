@@ -1,0 +1,35 @@
+//! The reader beside the dumps made by hand.
+
+use std::collections::HashSet;
+
+use crate::{cases, judge};
+
+/// The reader gives the answers that were written down.
+#[test]
+fn the_reader_agrees() {
+    let mut wrong = Vec::new();
+    for case in cases::all() {
+        let read = judge::accept(&case.configuration, &case.dump).map(|(_, events)| events);
+        if read != case.answer {
+            wrong.push(format!("{}: {read:?}", case.name));
+        }
+    }
+    assert!(wrong.is_empty(), "{wrong:#?}");
+}
+
+#[test]
+fn names_differ() {
+    let mut names = HashSet::new();
+    for case in cases::all() {
+        assert!(names.insert(case.name.clone()), "{}", case.name);
+    }
+    assert!(names.len() > 400, "{}", names.len());
+}
+
+/// The lines of the dump that is edited, by hand: kind 1, an unknown command, 35.
+#[test]
+fn the_base_prints_its_row() {
+    let base = &cases::all()[0];
+    let lines = "diag 90 1 53 0 0\ndropped 0\nimage 8 1 0 poweron 0 0 0\n0 0 0 0 0 0 0 0\n";
+    assert_eq!(base.lines(), lines.as_bytes());
+}
