@@ -1,8 +1,9 @@
-//! The reader beside the dumps made by hand.
+//! The reader beside the dumps made by hand and the real ones.
 
 use std::collections::HashSet;
+use std::path::Path;
 
-use crate::{cases, judge};
+use crate::{cases, judge, real};
 
 /// The reader gives the answers that were written down.
 #[test]
@@ -32,4 +33,12 @@ fn the_base_prints_its_row() {
     let base = &cases::all()[0];
     let lines = "diag 90 1 53 0 0\ndropped 0\nimage 8 1 0 poweron 0 0 0\n0 0 0 0 0 0 0 0\n";
     assert_eq!(base.lines(), lines.as_bytes());
+}
+
+#[test]
+fn the_real_dumps_answer_as_stored() {
+    let folder = Path::new(env!("CARGO_MANIFEST_DIR")).join("../../dumps/real");
+    let (text, equal) = real::check(&folder).expect("they can be read");
+    assert!(equal, "{text}");
+    assert_eq!(text.lines().count(), 14);
 }
