@@ -9,6 +9,7 @@ pub mod judge;
 pub mod list;
 pub mod make;
 mod mutate;
+pub mod page;
 pub mod real;
 mod reference;
 pub mod signals;

@@ -5,7 +5,7 @@ use std::io::{self, ErrorKind, Write};
 use std::path::Path;
 use std::process::ExitCode;
 
-use dumps::{against, cases, judge, list, make, real, stand_in, stats};
+use dumps::{against, cases, judge, list, make, page, real, stand_in, stats};
 
 const USAGE: &str = "usage: dumps vcd CONFIG FILE [lines | pgm | png]
        dumps list FILE
@@ -13,6 +13,7 @@ const USAGE: &str = "usage: dumps vcd CONFIG FILE [lines | pgm | png]
        dumps stats SEED N
        dumps cases DIR
        dumps check DIR
+       dumps page SEED DIR
        dumps made JOLLANQE DIR
        dumps compare JOLLANQE N SEED
        dumps pieces JOLLANQE N SEED
@@ -56,6 +57,7 @@ fn obey(words: &[&str]) -> io::Result<Option<bool>> {
         ["make", seed, folder] => made(number(seed)?, Path::new(folder))?,
         ["stats", seed, count] => say(stats::stats(number(seed)?, number(count)?))?,
         ["cases", folder] => cases::write(Path::new(folder))?,
+        ["page", seed, folder] => page::write(number(seed)?, Path::new(folder))?,
         ["check", folder] => {
             let (text, equal) = real::check(Path::new(folder))?;
             say(text)?;

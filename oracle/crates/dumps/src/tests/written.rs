@@ -2,9 +2,10 @@
 
 use oracle::capture::{Capture, Configuration, MOST_EVENTS};
 use oracle::run;
+use oracle::script::x3_panel;
 
 use crate::judge::{self, Form};
-use crate::{make, signals};
+use crate::{make, page, signals};
 
 /// What was written comes back; and changes without any order are a dump.
 #[test]
@@ -54,4 +55,18 @@ fn a_small_dump_is_its_capture() {
 fn a_seed_makes_one_dump() {
     let (one, other) = (make::make(7), make::make(7));
     assert!(one.dump == other.dump && one.configuration == other.configuration);
+}
+
+#[test]
+fn a_page_turn_comes_back() {
+    let page = page::page(1, 16);
+    assert!(signals::events(&page.dump) == Ok(page.events));
+}
+
+/// The size that the timing asks for.
+#[test]
+fn a_page_turn_is_large() {
+    let page = page::page(1, x3_panel().gates);
+    assert!((20_000_000..35_000_000).contains(&page.dump.len()));
+    assert!(page.events.len() > 100_000);
 }
