@@ -12,7 +12,7 @@ use oracle::rng::Rng;
 use oracle::script::example_panel;
 
 use crate::batch::{self, Job, Program};
-use crate::cases::{self, Case};
+use crate::cases;
 use crate::judge::Form;
 use crate::make;
 use crate::mutate;
@@ -30,18 +30,6 @@ fn form(rng: &mut Rng) -> Form {
         1 => Form::Png,
         _ => Form::Lines,
     }
-}
-
-/// A dump made by hand, with what must be written by the answer that was written down.
-fn hand_made(case: Case) -> Job {
-    let expected = case.lines();
-    Job::answered(
-        case.name,
-        case.configuration,
-        case.dump,
-        Form::Lines,
-        expected,
-    )
 }
 
 fn generated(seed: u64) -> Job {
@@ -144,7 +132,7 @@ pub fn fuzz(program: &Path, seconds: u64, seed: u64) -> io::Result<bool> {
 
 /// The dumps made by hand, by the answers that were written down, and the real ones of a folder.
 pub fn made(program: &Path, folder: &Path) -> io::Result<bool> {
-    let mut jobs: Vec<Job> = cases::all().into_iter().map(hand_made).collect();
+    let mut jobs: Vec<Job> = cases::all().into_iter().map(Job::made).collect();
     jobs.extend(real::jobs(folder)?);
     let mut left = Some(jobs);
     batches(program, || Ok(left.take()))
@@ -178,7 +166,7 @@ pub fn pieces(program: &Path, count: u64, seed: u64) -> io::Result<bool> {
     let program = Program::by(program)?;
     let mut tally = Tally::default();
     let mut rng = Rng::new(seed);
-    let made = cases::all().into_iter().map(hand_made);
+    let made = cases::all().into_iter().map(Job::made);
     for job in made.chain((seed..seed + count).map(generated)) {
         if job.dump.len() > MOST_IN_PIECES {
             continue;

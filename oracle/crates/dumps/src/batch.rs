@@ -1,10 +1,12 @@
 //! Jobs for `jollanqe`, many in one batch, held to what each has to write.
 
+use std::collections::HashMap;
 use std::fs;
 use std::io::{self, ErrorKind, Write};
 use std::path::{Path, PathBuf};
 use std::process::{Command, Stdio};
 
+use crate::cases::Case;
 use crate::judge::{self, Form};
 
 /// A job of the word `vcd`, and what it has to write.
@@ -51,6 +53,18 @@ impl Job {
         }
     }
 
+    /// A dump made by hand, with what must be written by the answer that was written down.
+    pub fn made(case: Case) -> Job {
+        let expected = case.lines();
+        Job::answered(
+            case.name,
+            case.configuration,
+            case.dump,
+            Form::Lines,
+            expected,
+        )
+    }
+
     /// The number of the refusal, 0 for none.
     pub fn number(&self) -> usize {
         let text = String::from_utf8_lossy(&self.expected);
@@ -94,6 +108,27 @@ impl Job {
             Err(_) => !self.has_file || self.is_refused,
         }
     }
+}
+
+/// Writes jobs as a batch of `jollanqe`, as the gate replays one: stdin, data and stdout. A
+/// configuration that many share stands once.
+pub fn write(folder: &Path, jobs: &[Job]) -> io::Result<()> {
+    let data = folder.join("data");
+    fs::create_dir_all(&data)?;
+    let (mut lines, mut output) = (String::new(), Vec::new());
+    let mut panels: HashMap<&[u8], &str> = HashMap::new();
+    for job in jobs {
+        let name = job.name.as_str();
+        let panel = *panels.entry(&job.configuration).or_insert(name);
+        if panel == name {
+            fs::write(data.join(format!("{name}.config")), &job.configuration)?;
+        }
+        fs::write(data.join(format!("{name}.vcd")), &job.dump)?;
+        lines += &format!("vcd {panel}.config {name}.vcd {}\n", job.form.word());
+        output.extend(&job.expected);
+    }
+    fs::write(folder.join("stdin"), lines)?;
+    fs::write(folder.join("stdout"), output)
 }
 
 /// A program, and the folder in which its jobs lie.

@@ -11,7 +11,7 @@ const USAGE: &str = "usage: dumps vcd CONFIG FILE [lines | pgm | png]
        dumps list FILE
        dumps make SEED DIR
        dumps stats SEED N
-       dumps cases DIR
+       dumps cases DIR | sample SEED N DIR
        dumps check DIR
        dumps page SEED DIR
        dumps made JOLLANQE DIR
@@ -57,6 +57,10 @@ fn obey(words: &[&str]) -> io::Result<Option<bool>> {
         ["make", seed, folder] => made(number(seed)?, Path::new(folder))?,
         ["stats", seed, count] => say(stats::stats(number(seed)?, number(count)?))?,
         ["cases", folder] => cases::write(Path::new(folder))?,
+        ["sample", seed, count, folder] => {
+            let count = number(count)? as usize;
+            make::write(number(seed)?, count, Path::new(folder))?;
+        }
         ["page", seed, folder] => page::write(number(seed)?, Path::new(folder))?,
         ["check", folder] => {
             let (text, equal) = real::check(Path::new(folder))?;

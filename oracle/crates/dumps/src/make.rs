@@ -1,9 +1,14 @@
 //! The dump of a seed: a generated capture written as a dump, or changes without any order.
 
+use std::io;
+use std::path::Path;
+
 use oracle::capture::{CONFIGURATION_BYTES, Capture, Event, TAIL_BYTES};
 use oracle::rng::Rng;
 use oracle::{cases, generate};
 
+use crate::batch::{self, Job};
+use crate::judge::Form;
 use crate::waves::{self, carried};
 use crate::write;
 
@@ -57,7 +62,7 @@ fn some(rng: &mut Rng) -> (Vec<u8>, Vec<Event>) {
 
 pub fn make(seed: u64) -> Made {
     let mut rng = Rng::new(seed);
-    let (mut configuration, events) = if rng.below(1_000) == 0 {
+    let (mut configuration, events) = if rng.below(250) == 0 {
         many(&mut rng)
     } else {
         some(&mut rng)
@@ -94,4 +99,23 @@ pub fn short(rng: &mut Rng) -> Vec<u8> {
     events.truncate(rng.between(0, 6) as usize);
     let waves = waves::waves(rng, &carried(&events));
     write::write(rng, &waves, false)
+}
+
+/// The most bytes of a dump that is stored.
+const MOST_STORED: usize = 4_000;
+
+/// Writes small dumps of the seeds from `seed` on as a batch of `jollanqe`.
+pub fn write(seed: u64, count: usize, folder: &Path) -> io::Result<()> {
+    let small = (seed..).map(|seed| (seed, make(seed)));
+    let small = small.filter(|(_, made)| made.dump.len() <= MOST_STORED);
+    let job = |(seed, made): (u64, Made)| {
+        let name = format!("seed-{seed}");
+        Job::new(name, made.configuration, made.dump, Form::Lines)
+    };
+    let jobs = small.map(job);
+    let jobs: Vec<Job> = jobs
+        .filter(|job| job.expected().len() <= MOST_STORED)
+        .take(count)
+        .collect();
+    batch::write(folder, &jobs)
 }

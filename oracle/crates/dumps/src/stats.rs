@@ -33,7 +33,7 @@ impl Counts {
             "$upscope",
             "$date",
         ] {
-            let is_there = all.iter().any(|word| *word == keyword.as_bytes());
+            let is_there = all.contains(&keyword.as_bytes());
             self.add(&format!("dumps with {keyword}"), usize::from(is_there));
         }
         let vectors = all.iter().filter(|word| matches!(word[0], b'b' | b'B'));

@@ -12,6 +12,7 @@ use std::path::Path;
 use oracle::capture::{ADVANCE, COMMAND, Configuration, Event, TRAILER_BYTES};
 use oracle::script::{Script, example_panel};
 
+use crate::batch::{self, Job};
 use crate::judge::{self, Form};
 
 /// One command byte, 35, whose eighth bit comes at 90; the last time is 100.
@@ -166,6 +167,7 @@ fn edited(dump: &[u8], old: &[u8], new: &[u8]) -> Vec<u8> {
     [&dump[..at], new, &dump[at + old.len()..]].concat()
 }
 
+/// Every dump, those together that show the same.
 pub fn all() -> Vec<Case> {
     let mut cases = vec![Case::new(
         "base",
@@ -184,39 +186,39 @@ pub fn all() -> Vec<Case> {
     cases.extend(readings::edits());
     cases.extend(readings::wholes());
     cases.extend(request::configurations());
+    let mut rows: Vec<&str> = Vec::new();
+    for case in &cases {
+        if !rows.contains(&case.shows) {
+            rows.push(case.shows);
+        }
+    }
+    cases.sort_by_key(|case| rows.iter().position(|row| *row == case.shows));
     cases
 }
 
-/// Writes the dumps as a batch of `jollanqe`: stdin, data and stdout, and an index of them.
-pub fn write(folder: &Path) -> io::Result<()> {
-    let data = folder.join("data");
-    fs::create_dir_all(&data)?;
-    let (mut jobs, mut output) = (String::new(), Vec::new());
+/// The dumps by what they show, each with its answer.
+fn index(cases: &[Case]) -> String {
     let mut index = String::from("# Dumps made by hand\n");
     let mut shown = "";
-    let usual = bytes(&example_panel());
-    fs::write(data.join("panel.config"), &usual)?;
-    for case in all() {
-        let name = &case.name;
-        let mut panel = "panel";
-        if case.configuration != usual {
-            panel = name;
-            fs::write(data.join(format!("{name}.config")), &case.configuration)?;
-        }
-        fs::write(data.join(format!("{name}.vcd")), &case.dump)?;
-        jobs += &format!("vcd {panel}.config {name}.vcd lines\n");
-        output.extend(case.lines());
+    for case in cases {
         if case.shows != shown {
             shown = case.shows;
             let _ = write!(index, "\n## {shown}\n\n");
         }
-        let answer = match case.answer {
+        let answer = match &case.answer {
             Err(number) => format!("refused {number}"),
             Ok(events) => format!("played, {} events", events.len()),
         };
-        let _ = writeln!(index, "- `{name}`: {answer}");
+        let _ = writeln!(index, "- `{}`: {answer}", case.name);
     }
-    fs::write(folder.join("stdin"), jobs)?;
-    fs::write(folder.join("stdout"), output)?;
+    index
+}
+
+/// Writes the dumps as a batch of `jollanqe`, and an index of them.
+pub fn write(folder: &Path) -> io::Result<()> {
+    let cases = all();
+    let index = index(&cases);
+    let jobs: Vec<Job> = cases.into_iter().map(Job::made).collect();
+    batch::write(folder, &jobs)?;
     fs::write(folder.join("INDEX.md"), index)
 }

@@ -980,7 +980,7 @@ fn coded(codes: [&str; 5]) -> Vec<u8> {
 /// Cases of several edits each.
 pub fn edits() -> Vec<Case> {
     let twice = "an x on any declaration of a signal that is declared twice is malformed";
-    let late = "a declaration after the first time, change or dump section is malformed";
+    let late = "`$enddefinitions` may be missing; a declaration after it, or after the first time, change or dump section, is malformed";
     vec![
         Case::edits(
             "wide-and-1x",
