@@ -539,6 +539,37 @@ pub fn edits() -> Vec<Case> {
     ]
 }
 
+/// Bytes as changes, the bits of each all at its time: `dc`, then bit by bit `mosi` and `clk`.
+fn sent(bytes: &[(u64, u8, u8)], last: u64) -> String {
+    let mut dump = format!("{}0!\n", head());
+    for (time, kind, byte) in bytes {
+        let dc = u8::from(*kind == DATA);
+        dump += &format!("#{time}\n{dc}\"\n");
+        for place in (0..8).rev() {
+            let bit = byte >> place & 1;
+            dump += &format!("0#\n{bit}$\n1#\n");
+        }
+    }
+    dump + &format!("#{last}\n")
+}
+
+/// The worked example of the rules: 13 bytes, and the refresh that ends at 3100.
+const EXAMPLE: &[(u64, u8, u8)] = &[
+    (0, COMMAND, 0x00),
+    (0, DATA, 0x3F),
+    (0, COMMAND, 0x04),
+    (100, COMMAND, 0x22),
+    (100, DATA, 0x80),
+    (100, DATA, 0x01),
+    (100, DATA, 0x00),
+    (100, DATA, 0x00),
+    (100, DATA, 0x00),
+    (100, DATA, 0x01),
+    (100, COMMAND, 0x13),
+    (100, DATA, 0xF0),
+    (100, COMMAND, 0x12),
+];
+
 pub fn wholes() -> Vec<Case> {
     let last = "the last time, 0 if none, is an advance at the end";
     let one = "signals of one code in the order named";
@@ -549,6 +580,18 @@ pub fn wholes() -> Vec<Case> {
         .replace("1 $ mosi", "1 ! mosi")
         .replace("1 % rst", "1 ! rst");
     vec![
+        whole(
+            "example",
+            last,
+            sent(EXAMPLE, 3_100),
+            Events(EXAMPLE, 3_100),
+        ),
+        whole(
+            "example-too-short",
+            last,
+            sent(EXAMPLE, 3_099),
+            Events(EXAMPLE, 3_099),
+        ),
         whole(
             "no-time",
             last,

@@ -35,6 +35,18 @@ fn the_base_prints_its_row() {
     assert_eq!(base.lines(), lines.as_bytes());
 }
 
+/// The worked example as a dump prints what the rules have for it; cut short, no refresh has ended.
+#[test]
+fn the_example_is_the_rules_own() {
+    let cases = cases::all();
+    let lines = |name: &str| {
+        let case = cases.iter().find(|case| case.name == name);
+        String::from_utf8(case.expect("it is there").lines()).expect("it is text")
+    };
+    assert_eq!(lines("example"), oracle::cases::EXAMPLE_OUTPUT);
+    assert!(lines("example-too-short").contains("image 8 1 0 poweron 0 0 0\n"));
+}
+
 #[test]
 fn the_real_dumps_answer_as_stored() {
     let folder = Path::new(env!("CARGO_MANIFEST_DIR")).join("../../dumps/real");
