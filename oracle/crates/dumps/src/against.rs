@@ -19,6 +19,8 @@ use crate::mutate;
 use crate::real;
 
 const JOBS: u64 = 200;
+/// Percent of the generated dumps that get a blow.
+const BROKEN: u64 = 5;
 /// How many dumps go by between two lines of progress.
 const PROGRESS: u64 = 10_000;
 /// The most bytes of a dump that goes piece by piece: no more than a reader asks for at once.
@@ -33,8 +35,11 @@ fn form(rng: &mut Rng) -> Form {
 }
 
 fn generated(seed: u64) -> Job {
-    let made = make::make(seed);
+    let mut made = make::make(seed);
     let mut rng = Rng::new(!seed);
+    if rng.chance(BROKEN) {
+        mutate::strike(&mut rng, &mut made.dump);
+    }
     let form = form(&mut rng);
     let name = format!("seed {seed}");
     let job = Job::new(name, made.configuration, made.dump, form);
@@ -124,7 +129,12 @@ pub fn fuzz(program: &Path, seconds: u64, seed: u64) -> io::Result<bool> {
             count += 1;
             let name = format!("dump {count} of seed {seed}");
             let dump = mutate::mutated(&mut rng, &made);
-            Job::new(name, cases::bytes(&example_panel()), dump, Form::Lines)
+            let configuration = if rng.chance(90) {
+                cases::bytes(&example_panel())
+            } else {
+                make::configuration(&mut rng)
+            };
+            Job::new(name, configuration, dump, Form::Lines)
         });
         Ok(Some(jobs.collect()))
     })

@@ -60,17 +60,29 @@ fn some(rng: &mut Rng) -> (Vec<u8>, Vec<Event>) {
     (configuration, events)
 }
 
-pub fn make(seed: u64) -> Made {
-    let mut rng = Rng::new(seed);
-    let (mut configuration, events) = if rng.below(250) == 0 {
-        many(&mut rng)
-    } else {
-        some(&mut rng)
-    };
+/// Of a wrong length now and then.
+fn cut(rng: &mut Rng, mut configuration: Vec<u8>) -> Vec<u8> {
     if rng.chance(1) {
         let length = rng.pick(&[0, 1, 311, 313, 320, 460]);
         configuration.resize(length, 0);
     }
+    configuration
+}
+
+/// The configuration bytes of some capture.
+pub fn configuration(rng: &mut Rng) -> Vec<u8> {
+    let configuration = capture(rng).0;
+    cut(rng, configuration)
+}
+
+pub fn make(seed: u64) -> Made {
+    let mut rng = Rng::new(seed);
+    let (configuration, events) = if rng.below(250) == 0 {
+        many(&mut rng)
+    } else {
+        some(&mut rng)
+    };
+    let configuration = cut(&mut rng, configuration);
     if rng.chance(10) {
         let waves = waves::noise(&mut rng);
         let share = rng.chance(50);

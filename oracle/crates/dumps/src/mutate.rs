@@ -166,6 +166,19 @@ fn declaration_blow(rng: &mut Rng, dump: &mut Vec<u8>) {
     }
 }
 
+/// A blow or a few.
+pub fn strike(rng: &mut Rng, dump: &mut Vec<u8>) {
+    for _ in 0..rng.pick(&[1, 1, 1, 1, 2, 3]) {
+        match rng.below(10) {
+            _ if dump.is_empty() => dump.push(rng.byte()),
+            0 | 1 => byte_blow(rng, dump),
+            2..=4 => value_blow(rng, dump),
+            5 => declaration_blow(rng, dump),
+            _ => word_blow(rng, dump),
+        }
+    }
+}
+
 /// A short dump, or one of those made by hand, after a blow or a few.
 pub fn mutated(rng: &mut Rng, made: &[Case]) -> Vec<u8> {
     let mut dump = if rng.chance(20) {
@@ -173,14 +186,6 @@ pub fn mutated(rng: &mut Rng, made: &[Case]) -> Vec<u8> {
     } else {
         make::short(rng)
     };
-    for _ in 0..rng.pick(&[1, 1, 1, 1, 2, 3]) {
-        match rng.below(10) {
-            _ if dump.is_empty() => dump.push(rng.byte()),
-            0 | 1 => byte_blow(rng, &mut dump),
-            2..=4 => value_blow(rng, &mut dump),
-            5 => declaration_blow(rng, &mut dump),
-            _ => word_blow(rng, &mut dump),
-        }
-    }
+    strike(rng, &mut dump);
     dump
 }

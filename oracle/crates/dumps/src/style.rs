@@ -146,12 +146,11 @@ pub fn new_code(rng: &mut Rng, taken: &[Code]) -> Code {
     }
 }
 
-/// The codes of the five: five different ones or, where they share, any of a few.
+/// The codes of the five: five different ones or, where they share, some of them the same.
 pub fn codes(rng: &mut Rng, share: bool) -> Vec<Code> {
-    let few = rng.between(1, 4) as usize;
     let mut codes: Vec<Code> = Vec::new();
     for _ in IN_ORDER {
-        let code = if share && codes.len() >= few {
+        let code = if share && !codes.is_empty() && rng.chance(30) {
             codes[rng.below(codes.len() as u64) as usize].clone()
         } else {
             new_code(rng, &codes)
