@@ -8,35 +8,17 @@ use super::{BASE, Case, MALFORMED, Row, SAME, SIGNALS, bytes};
 
 const NOTHING: super::Answer = Events(&[], 100);
 
+// An edit a line.
+#[rustfmt::skip]
 pub const ROWS: &[Row] = &[
     Row {
         shows: "while `cs` is 0, `mosi` is taken at each rise of `clk`, highest bit first",
         edits: &[
             ("cs-stays-1", b"#10\n0!\n", b"#10\n", NOTHING),
-            (
-                "cs-falls-late",
-                b"#10\n0!\n0\"\n#20\n1#\n",
-                b"#10\n0\"\n#20\n1#\n0!\n",
-                NOTHING,
-            ),
-            (
-                "cs-falls-at-the-rise",
-                b"#10\n0!\n0\"\n#20\n",
-                b"#10\n0\"\n#20\n0!\n",
-                SAME,
-            ),
-            (
-                "mosi-between",
-                b"#45\n0#\n",
-                b"#42\n0$\n#45\n0#\n1$\n",
-                SAME,
-            ),
-            (
-                "last-bit-0",
-                b"#85\n0#\n1$\n",
-                b"#85\n0#\n",
-                Events(&[(90, COMMAND, 0x34)], 100),
-            ),
+            ("cs-falls-late", b"#10\n0!\n0\"\n#20\n1#\n", b"#10\n0\"\n#20\n1#\n0!\n", NOTHING),
+            ("cs-falls-at-the-rise", b"#10\n0!\n0\"\n#20\n", b"#10\n0\"\n#20\n0!\n", SAME),
+            ("mosi-between", b"#45\n0#\n", b"#42\n0$\n#45\n0#\n1$\n", SAME),
+            ("last-bit-0", b"#85\n0#\n1$\n", b"#85\n0#\n", Events(&[(90, COMMAND, 0x34)], 100)),
             ("seven-bits", b"#90\n1#\n#95\n0#\n", b"", NOTHING),
             ("nine-bits", b"#95\n0#\n", b"#95\n0#\n#96\n1#\n", SAME),
         ],
@@ -44,67 +26,22 @@ pub const ROWS: &[Row] = &[
     Row {
         shows: "the eighth bit makes a command if `dc` is 0, else data, at that time",
         edits: &[
-            (
-                "dc-1",
-                b"0!\n0\"\n",
-                b"0!\n",
-                Events(&[(90, DATA, 0x35)], 100),
-            ),
-            (
-                "dc-1-before-the-eighth",
-                b"#90\n1#\n",
-                b"#90\n1\"\n1#\n",
-                Events(&[(90, DATA, 0x35)], 100),
-            ),
-            (
-                "dc-1-after-the-eighth",
-                b"#90\n1#\n",
-                b"#90\n1#\n1\"\n",
-                SAME,
-            ),
-            (
-                "dc-1-at-the-fourth",
-                b"#50\n1#\n",
-                b"#50\n1\"\n1#\n0\"\n",
-                SAME,
-            ),
+            ("dc-1", b"0!\n0\"\n", b"0!\n", Events(&[(90, DATA, 0x35)], 100)),
+            ("dc-1-before-the-eighth", b"#90\n1#\n", b"#90\n1\"\n1#\n", Events(&[(90, DATA, 0x35)], 100)),
+            ("dc-1-after-the-eighth", b"#90\n1#\n", b"#90\n1#\n1\"\n", SAME),
+            ("dc-1-at-the-fourth", b"#50\n1#\n", b"#50\n1\"\n1#\n0\"\n", SAME),
         ],
     },
     Row {
         shows: "a rise of `cs` drops a begun byte",
         edits: &[
-            (
-                "cs-rises-after-seven",
-                b"#85\n0#\n",
-                b"#84\n1!\n0!\n#85\n0#\n",
-                NOTHING,
-            ),
-            (
-                "cs-rises-before-the-first",
-                b"#20\n1#\n",
-                b"#19\n1!\n0!\n#20\n1#\n",
-                SAME,
-            ),
-            (
-                "cs-rises-after-a-begun-byte",
-                b"#20\n1#\n#25\n0#\n",
-                b"#12\n1#\n0#\n1#\n0#\n#13\n1!\n0!\n#20\n1#\n#25\n0#\n",
-                SAME,
-            ),
+            ("cs-rises-after-seven", b"#85\n0#\n", b"#84\n1!\n0!\n#85\n0#\n", NOTHING),
+            ("cs-rises-before-the-first", b"#20\n1#\n", b"#19\n1!\n0!\n#20\n1#\n", SAME),
+            ("cs-rises-after-a-begun-byte", b"#20\n1#\n#25\n0#\n", b"#12\n1#\n0#\n1#\n0#\n#13\n1!\n0!\n#20\n1#\n#25\n0#\n", SAME),
             ("cs-1-again", b"#100\n1!\n", b"#100\n1!\n1!\n", SAME),
             ("cs-0-again", b"#50\n1#\n", b"#50\n0!\n1#\n0!\n", SAME),
-            (
-                "cs-rises-at-the-eighth",
-                b"#90\n1#\n",
-                b"#90\n1!\n1#\n",
-                NOTHING,
-            ),
-            (
-                "cs-rises-after-the-eighth",
-                b"#90\n1#\n",
-                b"#90\n1#\n1!\n",
-                SAME,
-            ),
+            ("cs-rises-at-the-eighth", b"#90\n1#\n", b"#90\n1!\n1#\n", NOTHING),
+            ("cs-rises-after-the-eighth", b"#90\n1#\n", b"#90\n1#\n1!\n", SAME),
         ],
     },
     Row {
@@ -116,89 +53,34 @@ pub const ROWS: &[Row] = &[
                 b"#50\n0%\n1#\n#55\n0#\n1%\n",
                 Events(&[(50, RESET, 1), (55, RESET, 0), (90, COMMAND, 0x35)], 100),
             ),
-            (
-                "rst-0-at-first",
-                b"0$\n1%\n",
-                b"0$\n0%\n",
-                Events(&[(0, RESET, 1), (90, COMMAND, 0x35)], 100),
-            ),
+            ("rst-0-at-first", b"0$\n1%\n", b"0$\n0%\n", Events(&[(0, RESET, 1), (90, COMMAND, 0x35)], 100)),
             ("rst-1-again", b"#50\n", b"#50\n1%\n", SAME),
-            (
-                "rst-0-twice",
-                b"#50\n",
-                b"#50\n0%\n0%\n",
-                Events(&[(50, RESET, 1), (90, COMMAND, 0x35)], 100),
-            ),
-            (
-                "rst-at-the-eighth",
-                b"#90\n1#\n",
-                b"#90\n0%\n1#\n1%\n",
-                Events(&[(90, RESET, 1), (90, COMMAND, 0x35), (90, RESET, 0)], 100),
-            ),
-            (
-                "rst-with-cs-1",
-                b"#100\n1!\n",
-                b"#100\n1!\n0%\n",
-                Events(&[(90, COMMAND, 0x35), (100, RESET, 1)], 100),
-            ),
+            ("rst-0-twice", b"#50\n", b"#50\n0%\n0%\n", Events(&[(50, RESET, 1), (90, COMMAND, 0x35)], 100)),
+            ("rst-at-the-eighth", b"#90\n1#\n", b"#90\n0%\n1#\n1%\n", Events(&[(90, RESET, 1), (90, COMMAND, 0x35), (90, RESET, 0)], 100)),
+            ("rst-with-cs-1", b"#100\n1!\n", b"#100\n1!\n0%\n", Events(&[(90, COMMAND, 0x35), (100, RESET, 1)], 100)),
         ],
     },
     Row {
         shows: "the last time, 0 if none, is an advance at the end",
         edits: &[
-            (
-                "last-time-alone",
-                b"#100\n1!\n",
-                b"#100\n1!\n#250\n",
-                Events(&[(90, COMMAND, 0x35)], 250),
-            ),
-            (
-                "last-time-largest",
-                b"#100\n1!\n",
-                b"#100\n1!\n#18446744073709551615\n",
-                Events(&[(90, COMMAND, 0x35)], u64::MAX),
-            ),
+            ("last-time-alone", b"#100\n1!\n", b"#100\n1!\n#250\n", Events(&[(90, COMMAND, 0x35)], 250)),
+            ("last-time-largest", b"#100\n1!\n", b"#100\n1!\n#18446744073709551615\n", Events(&[(90, COMMAND, 0x35)], u64::MAX)),
         ],
     },
     Row {
         shows: "changes of one time apply in file order",
         edits: &[
-            (
-                "mosi-before-the-rise",
-                b"#85\n0#\n1$\n#90\n1#\n",
-                b"#85\n0#\n#90\n1$\n1#\n",
-                SAME,
-            ),
-            (
-                "mosi-after-the-rise",
-                b"#85\n0#\n1$\n#90\n1#\n",
-                b"#85\n0#\n#90\n1#\n1$\n",
-                Events(&[(90, COMMAND, 0x34)], 100),
-            ),
+            ("mosi-before-the-rise", b"#85\n0#\n1$\n#90\n1#\n", b"#85\n0#\n#90\n1$\n1#\n", SAME),
+            ("mosi-after-the-rise", b"#85\n0#\n1$\n#90\n1#\n", b"#85\n0#\n#90\n1#\n1$\n", Events(&[(90, COMMAND, 0x34)], 100)),
         ],
     },
     Row {
         shows: "signals of one code in the order named",
         edits: &[
-            (
-                "clk-and-mosi",
-                b"$ mosi",
-                b"# mosi",
-                Events(&[(90, COMMAND, 0x00)], 100),
-            ),
-            (
-                "dc-and-clk",
-                b"\" dc",
-                b"# dc",
-                Events(&[(90, DATA, 0x35)], 100),
-            ),
+            ("clk-and-mosi", b"$ mosi", b"# mosi", Events(&[(90, COMMAND, 0x00)], 100)),
+            ("dc-and-clk", b"\" dc", b"# dc", Events(&[(90, DATA, 0x35)], 100)),
             ("cs-and-clk", b"! cs", b"# cs", NOTHING),
-            (
-                "cs-and-rst",
-                b"% rst",
-                b"! rst",
-                Events(&[(10, RESET, 1), (90, COMMAND, 0x35), (100, RESET, 0)], 100),
-            ),
+            ("cs-and-rst", b"% rst", b"! rst", Events(&[(10, RESET, 1), (90, COMMAND, 0x35), (100, RESET, 0)], 100)),
             (
                 "clk-and-rst",
                 b"% rst",
@@ -232,18 +114,8 @@ pub const ROWS: &[Row] = &[
     Row {
         shows: "a signal counts as 1 before its first value, and a value repeated is no change",
         edits: &[
-            (
-                "mosi-without-a-first-value",
-                b"0$\n1%\n",
-                b"1%\n",
-                Events(&[(90, COMMAND, 0xF5)], 100),
-            ),
-            (
-                "clk-without-a-first-value",
-                b"0#\n0$\n1%\n",
-                b"0$\n1%\n",
-                NOTHING,
-            ),
+            ("mosi-without-a-first-value", b"0$\n1%\n", b"1%\n", Events(&[(90, COMMAND, 0xF5)], 100)),
+            ("clk-without-a-first-value", b"0#\n0$\n1%\n", b"0$\n1%\n", NOTHING),
             ("rst-without-a-value", b"0$\n1%\n", b"0$\n", SAME),
             ("mosi-again", b"#40\n1#\n", b"#40\n1$\n1#\n", SAME),
             ("clk-1-again", b"#40\n1#\n", b"#40\n1#\n1#\n1#\n", SAME),
@@ -254,18 +126,8 @@ pub const ROWS: &[Row] = &[
         shows: "a vector counts by its last digit",
         edits: &[
             ("vector-x1-on-clk", b"#90\n1#\n", b"#90\nbx1 #\n", SAME),
-            (
-                "vector-10-on-mosi",
-                b"#85\n0#\n1$\n",
-                b"#85\n0#\nb10 $\n",
-                Events(&[(90, COMMAND, 0x34)], 100),
-            ),
-            (
-                "vector-01-on-mosi",
-                b"#85\n0#\n1$\n",
-                b"#85\n0#\nB01 $\n",
-                SAME,
-            ),
+            ("vector-10-on-mosi", b"#85\n0#\n1$\n", b"#85\n0#\nb10 $\n", Events(&[(90, COMMAND, 0x34)], 100)),
+            ("vector-01-on-mosi", b"#85\n0#\n1$\n", b"#85\n0#\nB01 $\n", SAME),
             ("vector-zzz0-on-cs", b"#10\n0!\n", b"#10\nbzZxX0 !\n", SAME),
         ],
     },
@@ -275,29 +137,14 @@ pub const ROWS: &[Row] = &[
             ("x-on-cs", b"#10\n0!\n", b"#10\nx!\n", MALFORMED),
             ("z-on-dc", b"0!\n0\"\n", b"0!\nz\"\n", MALFORMED),
             ("upper-x-on-clk", b"#20\n1#\n", b"#20\nX#\n", MALFORMED),
-            (
-                "upper-z-on-mosi",
-                b"#55\n0#\n0$\n",
-                b"#55\n0#\nZ$\n",
-                MALFORMED,
-            ),
+            ("upper-z-on-mosi", b"#55\n0#\n0$\n", b"#55\n0#\nZ$\n", MALFORMED),
             ("x-on-rst", b"0$\n1%\n", b"0$\nx%\n", MALFORMED),
             ("x-at-the-end", b"#100\n1!\n", b"#100\n1!\nx$\n", MALFORMED),
             ("vector-1x-on-cs", b"#10\n0!\n", b"#10\nb1x !\n", MALFORMED),
             ("vector-0z-on-rst", b"0$\n1%\n", b"0$\nb0z %\n", MALFORMED),
             ("real-on-cs", b"#10\n0!\n", b"#10\nr0 !\n", MALFORMED),
-            (
-                "real-on-mosi",
-                b"#55\n0#\n0$\n",
-                b"#55\n0#\nr1.5 $\n",
-                MALFORMED,
-            ),
-            (
-                "x-in-dumpoff",
-                b"#100\n1!\n",
-                b"#100\n1!\n$dumpoff\nx!\n$end\n",
-                MALFORMED,
-            ),
+            ("real-on-mosi", b"#55\n0#\n0$\n", b"#55\n0#\nr1.5 $\n", MALFORMED),
+            ("x-in-dumpoff", b"#100\n1!\n", b"#100\n1!\n$dumpoff\nx!\n$end\n", MALFORMED),
         ],
     },
     Row {
@@ -317,59 +164,24 @@ pub const ROWS: &[Row] = &[
         edits: &[
             ("time-back", b"#95\n", b"#89\n", MALFORMED),
             ("time-back-to-0", b"#100\n", b"#0\n", MALFORMED),
-            (
-                "time-back-at-the-end",
-                b"#100\n1!\n",
-                b"#100\n1!\n#99\n",
-                MALFORMED,
-            ),
-            (
-                "time-2-to-the-64",
-                b"#100\n",
-                b"#18446744073709551616\n",
-                MALFORMED,
-            ),
-            (
-                "time-of-25-digits",
-                b"#100\n",
-                b"#1000000000000000000000000\n",
-                MALFORMED,
-            ),
-            (
-                "time-that-wraps-to-100",
-                b"#100\n",
-                b"#18446744073709551716\n",
-                MALFORMED,
-            ),
-            (
-                "time-largest",
-                b"#100\n",
-                b"#18446744073709551615\n",
-                Events(&[(90, COMMAND, 0x35)], u64::MAX),
-            ),
+            ("time-back-at-the-end", b"#100\n1!\n", b"#100\n1!\n#99\n", MALFORMED),
+            ("time-2-to-the-64", b"#100\n", b"#18446744073709551616\n", MALFORMED),
+            ("time-of-25-digits", b"#100\n", b"#1000000000000000000000000\n", MALFORMED),
+            ("time-that-wraps-to-100", b"#100\n", b"#18446744073709551716\n", MALFORMED),
+            ("time-largest", b"#100\n", b"#18446744073709551615\n", Events(&[(90, COMMAND, 0x35)], u64::MAX)),
         ],
     },
     Row {
         shows: "other signals and undeclared codes are passed over",
         edits: &[
-            (
-                "other-signal",
-                b"$upscope",
-                b"$var reg 8 & data $end\n$upscope",
-                SAME,
-            ),
+            ("other-signal", b"$upscope", b"$var reg 8 & data $end\n$upscope", SAME),
             (
                 "other-x",
                 b"$upscope $end\n$enddefinitions $end\n#0\n",
                 b"$var reg 8 & data $end\n$enddefinitions $end\n#0\nx&\nbzz11x &\nr-1.5e3 &\n",
                 SAME,
             ),
-            (
-                "other-on-the-code-of-mosi",
-                b"$upscope",
-                b"$var wire 8 $ data $end\n$upscope",
-                SAME,
-            ),
+            ("other-on-the-code-of-mosi", b"$upscope", b"$var wire 8 $ data $end\n$upscope", SAME),
             ("undeclared", b"#50\n", b"#50\n1&\n0&\nx!!\nz!\"\n", SAME),
             ("undeclared-in-dumpvars", b"0$\n1%\n", b"x&\n0$\n1%\n", SAME),
         ],
@@ -396,53 +208,18 @@ pub const ROWS: &[Row] = &[
             ("dc-wide", b"1 \" dc", b"8 \" dc", SIGNALS),
             ("clk-wide", b"1 # clk", b"10 # clk", SIGNALS),
             ("mosi-wide", b"1 $ mosi", b"002 $ mosi", SIGNALS),
-            (
-                "rst-wide",
-                b"1 % rst",
-                b"18446744073709551617 % rst",
-                SIGNALS,
-            ),
+            ("rst-wide", b"1 % rst", b"18446744073709551617 % rst", SIGNALS),
         ],
     },
     Row {
         shows: "12: one of the five signals declared twice",
         edits: &[
-            (
-                "cs-twice",
-                b"$upscope",
-                b"$var wire 1 & cs $end\n$upscope",
-                SIGNALS,
-            ),
-            (
-                "dc-twice-on-one-code",
-                b"$upscope",
-                b"$var wire 1 \" dc $end\n$upscope",
-                SIGNALS,
-            ),
-            (
-                "clk-twice-in-two-scopes",
-                b"$upscope",
-                b"$scope module inner $end\n$var wire 1 & clk $end\n$upscope $end\n$upscope",
-                SIGNALS,
-            ),
-            (
-                "mosi-twice-by-select",
-                b"$upscope",
-                b"$var wire 1 & mosi [1] $end\n$upscope",
-                SIGNALS,
-            ),
-            (
-                "rst-twice-by-escape",
-                b"$upscope",
-                b"$var wire 1 & \\rst $end\n$upscope",
-                SIGNALS,
-            ),
-            (
-                "cs-twice-once-wide",
-                b"$upscope",
-                b"$var wire 4 & cs $end\n$upscope",
-                SIGNALS,
-            ),
+            ("cs-twice", b"$upscope", b"$var wire 1 & cs $end\n$upscope", SIGNALS),
+            ("dc-twice-on-one-code", b"$upscope", b"$var wire 1 \" dc $end\n$upscope", SIGNALS),
+            ("clk-twice-in-two-scopes", b"$upscope", b"$scope module inner $end\n$var wire 1 & clk $end\n$upscope $end\n$upscope", SIGNALS),
+            ("mosi-twice-by-select", b"$upscope", b"$var wire 1 & mosi [1] $end\n$upscope", SIGNALS),
+            ("rst-twice-by-escape", b"$upscope", b"$var wire 1 & \\rst $end\n$upscope", SIGNALS),
+            ("cs-twice-once-wide", b"$upscope", b"$var wire 4 & cs $end\n$upscope", SIGNALS),
         ],
     },
 ];
