@@ -16,7 +16,7 @@ mod names;
 pub mod page;
 pub mod picture;
 pub mod planes;
-mod png;
+pub mod png;
 mod refreshes;
 pub mod refusal;
 mod registers;

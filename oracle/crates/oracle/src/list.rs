@@ -6,7 +6,8 @@ use crate::capture::{self, Capture, Configuration, EVENT_BYTES, Event, TAIL_BYTE
 use crate::names;
 use crate::run;
 
-fn event_words(event: Event) -> String {
+/// An event in words.
+pub fn event_words(event: Event) -> String {
     let Event { kind, value, .. } = event;
     if !event.is_listed() {
         return format!("not listed: kind {kind}, value {value}");
