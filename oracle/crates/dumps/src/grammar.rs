@@ -127,11 +127,11 @@ impl<'a> Reader<'a, '_> {
         }
     }
 
-    /// `$var` type size code reference `$end`; the third word is the code whatever it is.
+    /// `$var` type size code reference `$end`; a declaration ends at its first `$end`, so that is no code.
     fn variable(&mut self) -> Result<Variable<'a>, Malformed> {
         let (of, size, code) = (self.word()?, self.word()?, self.word()?);
         let name = reference::name(&self.until_end()?)?;
-        if !VARIABLE_TYPES.contains(&of) || !is_number(size) {
+        if !VARIABLE_TYPES.contains(&of) || !is_number(size) || code == b"$end" {
             return Err(Malformed);
         }
         let zeros = size.iter().take_while(|&&digit| digit == b'0').count();
