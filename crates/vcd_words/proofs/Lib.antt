@@ -1,0 +1,5 @@
+pub mod WordLaws
+pub mod SpanLaws
+pub mod Scanning
+pub mod Cutting
+pub mod Chain
