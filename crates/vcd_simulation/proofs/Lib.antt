@@ -1,0 +1,5 @@
+pub mod Holding
+pub mod Making
+pub mod StepLaws
+pub mod FeedLaws
+pub mod SameCodes

@@ -1,0 +1,37 @@
+-- Words of the simulation in some bytes, with their events in a buffer.
+use mathlib.Core.Path.{_≡_}
+use mathlib.Core.Bool.{Bool}
+use mathlib.Core.List.{List, [], _++_}
+use Prim.Native.Nat.{ℕ, _+_, _≤_, _<_}
+use lib.ListN.{length, take, drop}
+use Rattle.base.specs.Pick.{pick}
+use Rattle.event.specs.declared.Event.{Event}
+use Rattle.vcd_words.specs.Words.{words, closed}
+use Rattle.vcd_declarations.specs.declared.head.Head.{Head}
+use Rattle.vcd_simulation.specs.declared.body.Body.{Body}
+use Rattle.vcd_simulation.specs.declared.feeding.Fed.{Fed}
+use Rattle.vcd_simulation.specs.Simulation.{Codes, Went, wordsDone}
+use Rattle.vcd_simulation.specs.Written.{written}
+use Rattle.vcd_simulation.specs.InnerSteps.{codesBy}
+
+-- the words of some bytes; the last one counts where the dump ends with it
+abbrev pub wordsBy : Bool → List ℕ → List (List ℕ)
+wordsBy last bytes = pick last (words bytes) (closed bytes)
+
+-- what went before, and then the rest
+abbrev pub behind : List Event → Went → Went
+behind events w = record { body = w .body; events = events ++ w .events }
+
+-- the words from one place up to another were read, from the body b on; how many is left free but for the room of the buffer
+pub record Feeds (codes : Codes) (bytes : List ℕ) (at : ℕ) (last : Bool) (b : Body) (r : Fed) (out out′ : List ℕ) : Type 0 where
+  pub events : List Event
+  pub all : wordsDone codes (wordsBy last (drop at bytes)) b
+      ≡ behind events (wordsDone codes (wordsBy last (drop (r .next) bytes)) (r .body))
+  pub bytes-held : take (r .held) out′ ≡ written events
+  pub held-in : r .held ≤ length out′
+  pub size : length out′ ≡ length out
+  pub not-back : at ≤ r .next
+  pub inside : at ≤ length bytes → r .next ≤ length bytes
+  pub moves : 0 < r .held → at < r .next
+  -- with room for two events more no word is left
+  pub stops : r .held + 20 ≤ length out → wordsBy last (drop (r .next) bytes) ≡ []

@@ -1,0 +1,6 @@
+pub mod Bus
+pub mod Written
+pub mod Simulation
+pub mod InnerSteps
+pub mod InnerClip
+pub mod Feed
