@@ -1,0 +1,9 @@
+pub mod WrittenWords
+pub mod WrittenBits
+pub mod WrittenEvents
+pub mod WrittenHead
+pub mod ReadBack
+pub mod WrittenExample
+pub mod JudgeLaws
+pub mod Calls
+pub mod Fitting

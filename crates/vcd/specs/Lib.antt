@@ -1,0 +1,4 @@
+pub mod Dump
+pub mod Writer
+pub mod InnerJudged
+pub mod Played
