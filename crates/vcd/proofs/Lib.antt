@@ -7,3 +7,4 @@ pub mod WrittenExample
 pub mod JudgeLaws
 pub mod Calls
 pub mod Fitting
+pub mod Taken
