@@ -554,7 +554,7 @@ class WhatGoesWrong(Case):
 
     def test_another_program(self):
         self.put(a=CLEAN)
-        for other in ("cat", "yes", "tr -d '\\n' </dev/zero"):
+        for other in ("cat", "yes", "cat /dev/zero"):
             self.trouble("does not answer as jollanqe does", program=self.program(f"#!/bin/sh\nexec {other}\n"))
         self.trouble("true: ended with status 0 before it was done", program="true")
 
@@ -626,4 +626,6 @@ class WhatGoesWrong(Case):
 
 
 if __name__ == "__main__":
+    if not os.access(PROGRAM, os.X_OK):
+        sys.exit(f"test_morning: {PROGRAM} is not there: rt check jollanqe builds it")
     unittest.main()
