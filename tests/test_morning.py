@@ -256,10 +256,10 @@ class Names(Case):
         self.assertIn("<p>5 other files and folders passed over.", self.shows())  # its own page is none of them
 
     def test_numbers_are_in_order(self):
-        for n in (10, 9, 2, 1):
+        for n in ("10", "9", "2", "1", "²"):
             self.put(**{f"night-{n}": CLEAN})
         page = self.shows()
-        self.assertEqual(re.findall(r"<bdi>night-(\d+)\.capture", page), ["1", "2", "9", "10"])
+        self.assertEqual(re.findall(r"<bdi>night-(.+)\.capture</bdi>", page), ["1", "2", "9", "10", "²"])
 
     def test_names_that_a_batch_cannot_hold(self):
         names = ["two  blanks", "a > b", 'say "x"', "it's", "<b>bold&amp;", "-", "--help", "$(id)", "été", "> x"]
@@ -601,6 +601,12 @@ class WhatGoesWrong(Case):
         counting = f"#!/bin/sh\necho started >>{self.base}/starts\nexec {PROGRAM}\n"
         self.shows(program=self.program(counting))
         self.assertEqual((self.base / "starts").read_text(), "started\n")
+
+    def test_copies_and_answers_do_not_pile_up(self):
+        self.put(**{f"n{n}": CLEAN for n in range(9)})
+        watching = f"#!/bin/sh\n{PROGRAM}\nls >{self.base}/left\n"
+        self.shows(program=self.program(watching))
+        self.assertEqual((self.base / "left").read_text().split(), ["body", "known", "mark"])
 
     def test_standard_output_full(self):
         self.put(a=CLEAN)
