@@ -256,10 +256,10 @@ class Names(Case):
         self.assertIn("<p>5 other files and folders passed over.", self.shows())  # its own page is none of them
 
     def test_numbers_are_in_order(self):
-        for n in (10, 9, 2, 1):
+        for n in ("10", "9", "2", "1", "²"):
             self.put(**{f"night-{n}": CLEAN})
         page = self.shows()
-        self.assertEqual(re.findall(r"<bdi>night-(\d+)\.capture", page), ["1", "2", "9", "10"])
+        self.assertEqual(re.findall(r"<bdi>night-(.+)\.capture</bdi>", page), ["1", "2", "9", "10", "²"])
 
     def test_names_that_a_batch_cannot_hold(self):
         names = ["two  blanks", "a > b", 'say "x"', "it's", "<b>bold&amp;", "-", "--help", "$(id)", "été", "> x"]
@@ -554,7 +554,7 @@ class WhatGoesWrong(Case):
 
     def test_another_program(self):
         self.put(a=CLEAN)
-        for other in ("cat", "yes", "tr -d '\\n' </dev/zero"):
+        for other in ("cat", "yes", "cat /dev/zero"):
             self.trouble("does not answer as jollanqe does", program=self.program(f"#!/bin/sh\nexec {other}\n"))
         self.trouble("true: ended with status 0 before it was done", program="true")
 
@@ -602,6 +602,12 @@ class WhatGoesWrong(Case):
         self.shows(program=self.program(counting))
         self.assertEqual((self.base / "starts").read_text(), "started\n")
 
+    def test_copies_and_answers_do_not_pile_up(self):
+        self.put(**{f"n{n}": CLEAN for n in range(9)})
+        watching = f"#!/bin/sh\n{PROGRAM}\nls >{self.base}/left\n"
+        self.shows(program=self.program(watching))
+        self.assertEqual((self.base / "left").read_text().split(), ["body", "known", "mark"])
+
     def test_standard_output_full(self):
         self.put(a=CLEAN)
         command = [sys.executable, MORNING, self.night, "--program", PROGRAM]
@@ -626,4 +632,6 @@ class WhatGoesWrong(Case):
 
 
 if __name__ == "__main__":
+    if not os.access(PROGRAM, os.X_OK):
+        sys.exit(f"test_morning: {PROGRAM} is not there: rt check jollanqe builds it")
     unittest.main()
