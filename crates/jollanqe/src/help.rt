@@ -8,8 +8,13 @@ fn line(text: &[u8]) {
 
 // Every word.
 pub(crate) fn say() {
-    line(b"jollanqe: what an e-paper controller and its glass make of a capture\n");
-    line(b"\n");
+    if !io::write_all(
+        STDOUT_FILENO,
+        b"jollanqe: what an e-paper controller and its glass make of a capture\n\n",
+    ) {
+        os::fail(b"standard output");
+        return;
+    }
     line(b"  jollanqe help                 this\n");
     line(b"  jollanqe lines FILE           reads, diagnostics and the last picture, as text\n");
     line(b"  jollanqe pgm FILE             the last picture as a graymap (Netpbm P5)\n");
@@ -42,4 +47,20 @@ pub(crate) fn wanted(text: &[u8]) {
     io::write_all(STDERR_FILENO, b"jollanqe: ");
     io::write_all(STDERR_FILENO, text);
     io::write_all(STDERR_FILENO, b"\n");
+}
+
+// The same of a word of one file.
+pub(crate) fn wants_file(word: &[u8]) {
+    io::write_all(STDERR_FILENO, b"jollanqe: ");
+    io::write_all(STDERR_FILENO, word);
+    io::write_all(STDERR_FILENO, b" wants one file, as in: jollanqe ");
+    io::write_all(STDERR_FILENO, word);
+    io::write_all(STDERR_FILENO, b" night.capture\n");
+}
+
+// A word that is none.
+pub(crate) fn no_word(word: &[u8]) {
+    io::write_all(STDERR_FILENO, b"jollanqe: no such word: ");
+    io::write_all(STDERR_FILENO, word);
+    io::write_all(STDERR_FILENO, b"; jollanqe help says all of them\n");
 }

@@ -79,6 +79,15 @@ fn takes_batch(name: &[u8], in_batch: bool) -> bool {
     false
 }
 
+// Whether a job would write over a file that it reads.
+fn writes_over(name: &[u8], out: &[u8]) -> bool {
+    if same(name, out) {
+        help::wanted(b"a capture would be written over: name another file");
+        return true;
+    }
+    false
+}
+
 // A word of one file.
 fn one_file(
     task: Task,
@@ -93,7 +102,7 @@ fn one_file(
     rows: &mut [u64],
 ) {
     if before_target(line, in_batch) != 2 {
-        help::wanted(b"this word wants one file, as in: jollanqe png night.capture");
+        help::wants_file(word(line, 0));
         return;
     }
     let name = word(line, 1);
@@ -101,6 +110,9 @@ fn one_file(
         return;
     }
     let out = target(line, in_batch);
+    if writes_over(name, out) {
+        return;
+    }
     task::run(
         task,
         name,
@@ -140,6 +152,9 @@ fn into_folder(
     }
     let dir = word(line, 2);
     let out = target(line, in_batch);
+    if writes_over(name, out) {
+        return;
+    }
     task::run(
         Task::Watch(Watch::Pictures),
         name,
@@ -198,6 +213,12 @@ fn two_files(
         return;
     }
     let out = target(line, in_batch);
+    if writes_over(a, out) {
+        return;
+    }
+    if writes_over(b, out) {
+        return;
+    }
     comparing::run(
         a,
         b,
@@ -213,6 +234,15 @@ fn two_files(
         rows,
         other_rows,
     );
+}
+
+// `help` stands alone.
+fn say_help(line: &[u8]) {
+    if count(line) == 1 {
+        help::say();
+        return;
+    }
+    help::wanted(b"help stands alone, and writes to standard output");
 }
 
 // The job of a line.
@@ -235,7 +265,7 @@ pub(crate) fn run(
     }
     let w = sort(word(line, 0));
     match w {
-        Word::Help => help::say(),
+        Word::Help => say_help(line),
         Word::Task(task) => one_file(
             task,
             line,
@@ -273,6 +303,6 @@ pub(crate) fn run(
             rows,
             other_rows,
         ),
-        Word::Unknown => help::wanted(b"no such word: jollanqe help says all of them"),
+        Word::Unknown => help::no_word(word(line, 0)),
     }
 }

@@ -124,7 +124,28 @@ fn batch(
     }
 }
 
-// The arguments as a line, a zero behind each; the answer is how many bytes it has.
+// Opens the null device, and whether it got the place of a standard stream that was closed.
+fn held_place() -> bool {
+    let fd = os::open_read(b"/dev/null");
+    if fd <= STDERR_FILENO {
+        return true;
+    }
+    libc::close(fd);
+    false
+}
+
+// No file that a job opens may take the place of a standard stream: what is said on it would be
+// written there.
+fn hold_streams() {
+    if held_place() {
+        if held_place() {
+            held_place();
+        }
+    }
+}
+
+// The arguments as a line, a zero behind each; the answer is how many bytes it has. None of a word
+// that is empty or does not fit.
 fn gather(line: &mut [u8]) -> usize {
     let count = os::arg_count();
     let mut space = io::buffer();
@@ -136,8 +157,16 @@ fn gather(line: &mut [u8]) -> usize {
             os::fail(b"arguments");
             return 0;
         }
+        if n == 0 {
+            help::wanted(b"one of the words is empty");
+            return 0;
+        }
         held = text::put(line, held, front(&space, n));
         held = text::byte(line, held, 0);
+        if line.len() <= held {
+            help::wanted(b"the words have more than 8,190 bytes together");
+            return 0;
+        }
         i += 1;
     }
     held
@@ -155,6 +184,7 @@ fn main() {
     let mut other_picture = [0u8; PIXELS];
     let mut rows = [0u64; ROWS];
     let mut other_rows = [0u64; ROWS];
+    hold_streams();
     if os::arg_count() <= 1 {
         batch(
             &mut line,

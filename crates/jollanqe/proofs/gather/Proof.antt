@@ -7,10 +7,10 @@ use Rattle.jollanqe.proofs.gather.Statement.{statement}
 use Rattle.jollanqe.proofs.gather.Tie as tie
 
 abbrev Inv-loop : tie.InvT-loop
-Inv-loop line₀ count space₀ held₀ i₀ t7 line space held i = (4096 ≡ length space) × (length line ≡ length line₀)
+Inv-loop line₀ count space₀ held₀ i₀ t7 t8 t9 line space held i = (4096 ≡ length space) × (length line ≡ length line₀)
 
 abbrev μ-loop : tie.MeasureT-loop
-μ-loop line₀ count space₀ held₀ i₀ t7 line space held i = count - i
+μ-loop line₀ count space₀ held₀ i₀ t7 t8 t9 line space held i = count - i
 
 pub gather-spec : {M : Type 1} → statement M
 gather-spec =
@@ -30,8 +30,16 @@ gather-spec =
     (λ c. search needs)
     (λ c. search needs)
     (λ c κs. search needs)
+    (λ c. search needs)
+    (λ c. search needs)
+    (λ c. search needs)
     (λ c κs. search needs)
     (λ c κs. search needs)
+    (λ c κs. search needs)
+    (λ c. search needs)
+    (λ c κs. search needs)
+    (λ c. search needs)
+    (λ c. search needs)
     (λ c. search needs)
     (λ c. search needs)
     (λ c. search needs)
