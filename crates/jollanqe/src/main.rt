@@ -124,13 +124,20 @@ fn batch(
     }
 }
 
-// Opens the null device, and whether it got the place of a standard stream that was closed.
+// Opens the null device, and whether it got the place of a standard stream that was closed: one
+// that cannot be read for the input, one that cannot be written for the others, so that using it
+// fails as before.
 fn held_place() -> bool {
-    let fd = os::open_read(b"/dev/null");
-    if fd <= STDERR_FILENO {
+    let unread = os::open_append(b"/dev/null");
+    if unread == STDIN_FILENO {
         return true;
     }
-    libc::close(fd);
+    libc::close(unread);
+    let unwritten = os::open_read(b"/dev/null");
+    if unwritten <= STDERR_FILENO {
+        return true;
+    }
+    libc::close(unwritten);
     false
 }
 
