@@ -26,7 +26,7 @@ use Rattle.vcd_simulation.specs.Written.{written, Holds}
 use Rattle.vcd_simulation.specs.InnerSteps.{codesBy, Steps}
 use Rattle.vcd_simulation.specs.InnerClip.{end, inside, codesInside, headInside, isOpen}
 use Rattle.vcd_simulation.specs.Feed.{wordsBy, behind, Feeds}
-use Rattle.vcd_simulation.proofs.Holding.{written-join}
+use Rattle.vcd_simulation.proofs.Holding.{written-join, later}
 
 -- ---- a place that is held to the bytes gives the same code
 inside-in : (n : ℕ) (s : Span) → Within (inside n s) n
@@ -83,6 +83,7 @@ pub record Feeding (codes : Codes) (bytes : List ℕ) (at : ℕ) (last : Bool) (
   pub bytes-held : take held out′ ≡ written events
   pub held-in : held ≤ length out′
   pub size : length out′ ≡ length out
+  pub rest : drop held out′ ≡ drop held out
   pub not-back : at ≤ next
   pub inside-bytes : at ≤ length bytes → next ≤ length bytes
   pub moves : 0 < held → at < next
@@ -94,6 +95,7 @@ feeding-start codes bytes at last b out = record {
   bytes-held = refl;
   held-in = omega arith;
   size = refl;
+  rest = refl;
   not-back = omega arith;
   inside-bytes = λ h. h;
   moves = λ h. absurd (omega (arith, h));
@@ -109,6 +111,7 @@ module _ (codes : Codes) (bytes : List ℕ) (at : ℕ) (last : Bool) (b : Body) 
     bytes-held = f .bytes-held;
     held-in = f .held-in;
     size = f .size;
+    rest = f .rest;
     not-back = f .not-back;
     inside = f .inside-bytes;
     moves = f .moves;
@@ -128,6 +131,7 @@ module _ (codes : Codes) (bytes : List ℕ) (at : ℕ) (last : Bool) (b : Body) 
     bytes-held = t .holds .bytes ∙ ap (λ (l : List ℕ). l ++ written ev) (f .bytes-held) ∙ sym (written-join (f .events) ev);
     held-in = k;
     size = t .holds .size ∙ f .size;
+    rest = t .holds .rest ∙ ap (λ (n : ℕ). drop n out′) (t .holds .count) ∙ later held (length (written ev)) out out′ (f .rest) ∙ ap (λ (n : ℕ). drop n out) (sym (t .holds .count));
     not-back = omega (arith, f .not-back, l);
     inside-bytes = λ h. m (f .inside-bytes h);
     moves = λ h. omega (arith, f .not-back, l);

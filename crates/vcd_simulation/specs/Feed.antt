@@ -30,6 +30,7 @@ pub record Feeds (codes : Codes) (bytes : List ℕ) (at : ℕ) (last : Bool) (b 
   pub bytes-held : take (r .held) out′ ≡ written events
   pub held-in : r .held ≤ length out′
   pub size : length out′ ≡ length out
+  pub rest : drop (r .held) out′ ≡ drop (r .held) out
   pub not-back : at ≤ r .next
   pub inside : at ≤ length bytes → r .next ≤ length bytes
   pub moves : 0 < r .held → at < r .next
