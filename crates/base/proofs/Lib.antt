@@ -2,6 +2,7 @@ pub mod Integer
 pub mod Product
 pub mod InTurn
 pub mod Cases
+pub mod Chain
 pub mod Lists
 pub mod Listed
 pub mod Turns

@@ -13,7 +13,8 @@ use Rattle.base.specs.RefusalNumbers.{refusalNumber}
 abbrev words : List Refusal
 words =
     refusal.Nothing ∷ refusal.EmptyPanel ∷ refusal.OversizedPanel ∷ refusal.Swing ∷ refusal.FramePeriod ∷ refusal.BufferLength
-    ∷ refusal.ForeignRecord ∷ refusal.ForeignContents ∷ refusal.BrokenCapture ∷ refusal.BadEvent ∷ refusal.TooManyPixels ∷ []
+    ∷ refusal.ForeignRecord ∷ refusal.ForeignContents ∷ refusal.BrokenCapture ∷ refusal.BadEvent ∷ refusal.TooManyPixels
+    ∷ refusal.MalformedDump ∷ refusal.WrongSignals ∷ []
 
 abbrev word : ℕ → Refusal
 word n = getD words n refusal.Nothing
@@ -30,6 +31,8 @@ word-number refusal.ForeignContents = refl
 word-number refusal.BrokenCapture = refl
 word-number refusal.BadEvent = refl
 word-number refusal.TooManyPixels = refl
+word-number refusal.MalformedDump = refl
+word-number refusal.WrongSignals = refl
 
 pub number-one-to-one : (r s : Refusal) → refusalNumber r ≡ refusalNumber s → r ≡ s
 number-one-to-one r s e = sym (word-number r) ∙ ap word e ∙ word-number s

@@ -16,3 +16,5 @@ refusalNumber refusal.ForeignContents = 7
 refusalNumber refusal.BrokenCapture = 8
 refusalNumber refusal.BadEvent = 9
 refusalNumber refusal.TooManyPixels = 10
+refusalNumber refusal.MalformedDump = 11
+refusalNumber refusal.WrongSignals = 12

@@ -16,6 +16,8 @@ pub enum Refusal {
     BrokenCapture,
     BadEvent,
     TooManyPixels,
+    MalformedDump,
+    WrongSignals,
 }
 
 impl Refusal {
@@ -35,6 +37,8 @@ impl Refusal {
             Refusal::BrokenCapture => 8,
             Refusal::BadEvent => 9,
             Refusal::TooManyPixels => 10,
+            Refusal::MalformedDump => 11,
+            Refusal::WrongSignals => 12,
         }
     }
 

@@ -12,7 +12,7 @@ use borrow.Author.Tests.{ltb-false, eqb-true, eqb-false, le-ltb, eq-eqb, ne-eqb,
 use Rattle.base.proofs.Cases.{by-cases}
 use Rattle.config.specs.Refusal.{refusal}
 use Rattle.capture.specs.Layout.{kindAt, valueAt, variantAt, flagsAt, offsetOf, countOf, configIn, pixelCount}
-use Rattle.capture.specs.Refused.{broken, badEvent, fileRefused, tooMany, captureRefused, Taken}
+use Rattle.capture.specs.Refused.{broken, badConfig, badEvent, fileRefused, tooMany, captureRefused, Taken}
 use Rattle.capture.specs.Reading.{eventsEnd, eventsOf}
 use Rattle.capture.proofs.ListedLaws.{each-listed, listed-all}
 
@@ -93,27 +93,27 @@ unbroken file w = simp (le-ltb _ _ (w .least), le-ltb _ _ (w .most), eq-eqb _ _ 
 
 -- (1) a file that is not refused has all of it
 pub taken : (file : List ℕ) → fileRefused file ≡ 0 → Taken file
-unfolding badEvent
+unfolding badConfig badEvent
 taken file z =
     let p = zero-passed file z in
     let w = whole file (p .whole) in
-    let variant = neither (ltb 1 (variantAt file (offsetOf file))) _ (p .events) in
-    let flags = neither (ltb 7 (flagsAt file (offsetOf file))) _ (variant .1) in
+    let both = neither (badConfig file (offsetOf file)) _ (p .events) in
+    let config = neither (ltb 1 (variantAt file (offsetOf file))) _ (both .0) in
     record {
       least = w .least;
       most = w .most;
       offset-is = w .offset-is;
       length-is = w .length-is;
       count-most = omega (arith, w .most, w .offset-is, w .length-is);
-      variant-most = ltb-false _ _ (variant .0);
-      flags-most = ltb-false _ _ (flags .0);
-      events-listed = each-listed file (countOf file) (not-false _ (flags .1));
+      variant-most = ltb-false _ _ (config .0);
+      flags-most = ltb-false _ _ (config .1);
+      events-listed = each-listed file (countOf file) (not-false _ (both .1));
       config-taken = p .config;
     }
 
 -- (2) a file that has all of it is not refused
 pub takes : (file : List ℕ) → Taken file → fileRefused file ≡ 0
-unfolding badEvent
+unfolding badConfig badEvent
 takes file t =
     config-third file
     (unbroken file (record { least = t .least; most = t .most; offset-is = t .offset-is; length-is = t .length-is }))

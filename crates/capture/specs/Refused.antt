@@ -32,12 +32,13 @@ abbrev pub allListed : List ℕ → ℕ → Bool
 allListed file zero = true
 allListed file (suc n) = allListed file n && listed (kindAt file n) (valueAt file n)
 
--- 9, bad event: variant above 1, a flag bit above bit 2, or an event kind or value not listed
+-- of a configuration: variant above 1, a flag bit above bit 2
+unfoldable pub badConfig : List ℕ → ℕ → Bool
+badConfig file at = ltb 1 (variantAt file at) || ltb 7 (flagsAt file at)
+
+-- 9, bad event: a bad configuration, or an event kind or value not listed
 unfoldable pub badEvent : List ℕ → Bool
-badEvent file =
-    ltb 1 (variantAt file (offsetOf file))
-    || (ltb 7 (flagsAt file (offsetOf file))
-    || not (allListed file (countOf file)))
+badEvent file = badConfig file (offsetOf file) || not (allListed file (countOf file))
 
 -- the number of the first of 8, 9 and 1 to 4 that a file meets, 0 if it meets none
 unfoldable pub fileRefused : List ℕ → ℕ

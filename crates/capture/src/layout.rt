@@ -170,6 +170,13 @@ pub(crate) fn config_at(file: &[u8], at: usize) -> Uc8253Config
     }
 }
 
+// The configuration of bytes that are one.
+pub fn config_of(bytes: &[u8]) -> Uc8253Config
+    ensures { λ r. ⌜ r ≡ spec.configOf (now (bytes .entry)) 0 ⌝ }
+{
+    config_at(bytes, 0)
+}
+
 // The configuration where the trailer points, of any bytes.
 pub fn config(file: &[u8]) -> Uc8253Config
     ensures { λ r. ⌜ r ≡ spec.configIn (now (file .entry)) ⌝ }

@@ -58,7 +58,7 @@ fn broken(file: &[u8], t: Trailer) -> bool
 }
 
 // Whether document 01 lists the kind, and the value for it.
-fn listed(kind: u8, value: u8) -> bool
+pub fn listed(kind: u8, value: u8) -> bool
     ensures { λ r. ⌜ r ≡ spec.listed kind value ⌝ }
 {
     if kind == COMMAND {
@@ -94,16 +94,22 @@ fn all_listed(file: &[u8], count: u64) -> bool
     true
 }
 
+// 9, of a configuration: a variant or a flag that is not listed.
+pub fn bad_config(file: &[u8], at: usize) -> bool
+    ensures { λ r. ⌜ r ≡ spec.badConfig (now (file .entry)) at ⌝ }
+{
+    if LAST_VARIANT < byte(file, at, 0) {
+        return true;
+    }
+    ALL_FLAGS < byte(file, at, 1)
+}
+
 // 9: a variant, a flag or an event that is not listed.
 fn bad_event(file: &[u8], t: Trailer) -> bool
     requires { ⌜ Trails (now file) t ⌝ }
     ensures { λ r. ⌜ r ≡ spec.badEvent (now (file .entry)) ⌝ }
 {
-    let at = t.offset as usize;
-    if LAST_VARIANT < byte(file, at, 0) {
-        return true;
-    }
-    if ALL_FLAGS < byte(file, at, 1) {
+    if bad_config(file, t.offset as usize) {
         return true;
     }
     !all_listed(file, t.count)

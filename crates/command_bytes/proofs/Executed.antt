@@ -6,7 +6,7 @@ use Prim.Native.Nat.{ℕ}
 use types.Run.{OneOf}
 use borrow.Author.Tests.{ne-eqb}
 use Rattle.base.proofs.Sorting.{at-key, no-key, Rest}
-use Rattle.controller.proofs.Chain.{yes, no}
+use Rattle.base.proofs.Chain.{yes, no}
 use Rattle.controller.specs.declared.Work.the-variants as work
 use Rattle.controller.specs.World.{World, onChip}
 use Rattle.controller.specs.Setters.{withRegs, withDataFlag}

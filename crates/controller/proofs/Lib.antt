@@ -1,4 +1,3 @@
-pub mod Chain
 pub mod Parts
 pub mod Glass
 pub mod Sound

@@ -8,7 +8,7 @@ use Rattle.registers.specs.declared.Area.{Area}
 use Rattle.registers.specs.Written.{writtenOf}
 use Rattle.ram.specs.declared.Cursor.{Cursor}
 use Rattle.ram.specs.Write.{written, nextOf}
-use Rattle.controller.proofs.Chain.{no}
+use Rattle.base.proofs.Chain.{no}
 use Rattle.controller.specs.declared.Active.{Active}
 use Rattle.controller.specs.declared.Uc8253.{Uc8253}
 use Rattle.controller.specs.World.{World, world}

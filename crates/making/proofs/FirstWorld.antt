@@ -19,7 +19,7 @@ use Rattle.controller.specs.declared.Uc8253.{Uc8253}
 use Rattle.controller.specs.World.{Buffers, buffers, world}
 use Rattle.controller.specs.TurnedBack.{lentFits, makingRefused}
 use Rattle.controller.specs.Calls.{firstChip, firstBuffers, zeros, made}
-use Rattle.controller.proofs.Chain.{yes, no}
+use Rattle.base.proofs.Chain.{yes, no}
 use Rattle.controller.proofs.Parts.{lengths}
 
 -- ---- a making that is not refused

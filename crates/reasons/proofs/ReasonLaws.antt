@@ -14,7 +14,7 @@ use Rattle.base.proofs.Cases.{both}
 use Rattle.config.specs.declared.Uc8253Config.{Uc8253Config}
 use Rattle.config.specs.Refusal.{emptyPanel, oversizedPanel, swingRefused, periodRefused, refusal}
 use Rattle.capture.specs.Layout.{kindAt, valueAt, variantAt, flagsAt, offsetOf, countOf, configIn}
-use Rattle.capture.specs.Refused.{broken, listed, badEvent, fileRefused}
+use Rattle.capture.specs.Refused.{broken, listed, badConfig, badEvent, fileRefused}
 use Rattle.capture.proofs.CaptureLaws.{Whole}
 use Rattle.reasons.specs.declared.causes.Reason.{Reason}
 use Rattle.reasons.specs.declared.causes.Reason.the-variants as reason
@@ -31,7 +31,7 @@ either true t m n = refl
 either false t m n = refl
 
 bad-number : (file : List ℕ) → refusalOf (badReason file (offsetOf file) (countOf file)) ≡ pick (badEvent file) 9 0
-unfolding badReason badEvent
+unfolding badReason badConfig badEvent
 bad-number file = simp (refusal-picked, either, events-number)
 
 pub number-is : (file : List ℕ) → refusalOf (reasonOf file) ≡ pick (broken file) 8 (pick (badEvent file) 9 0)

@@ -1,15 +1,12 @@
 // The first event that is not listed. Events are counted from 0.
 ghost use mathlib.Core.Path.{_≡_};
-ghost use Rattle.capture.specs.Refused.{listed};
 ghost use Rattle.reasons.specs.Reasons as rule;
 use crate::causes::Reason;
 use capture::ADVANCE;
 use capture::COMMAND;
-use capture::DATA;
 use capture::EVENT_BYTES;
-use capture::READ;
-use capture::RESET;
 use capture::byte;
+use capture::listed;
 
 // Where in an event the kind and the value stand.
 const KIND: usize = 8;
@@ -24,28 +21,6 @@ fn known(kind: u8) -> bool
         return false;
     }
     kind <= ADVANCE
-}
-
-// Whether the value is listed for the kind.
-fn allowed(kind: u8, value: u8) -> bool
-    ensures { λ r. ⌜ r ≡ listed kind value ⌝ }
-{
-    if kind == COMMAND {
-        return true;
-    }
-    if kind == DATA {
-        return true;
-    }
-    if kind == READ {
-        return value == 0;
-    }
-    if kind == RESET {
-        return value <= 1;
-    }
-    if kind == ADVANCE {
-        return value == 0;
-    }
-    false
 }
 
 // What is wrong with an event that is not listed.
@@ -67,7 +42,7 @@ pub(crate) fn first_fault(file: &[u8], count: u32) -> Reason
         let at = EVENT_BYTES * i as usize;
         let kind = byte(file, at, KIND);
         let value = byte(file, at, VALUE);
-        if !allowed(kind, value) {
+        if !listed(kind, value) {
             return fault(i, kind, value);
         }
         i += 1;

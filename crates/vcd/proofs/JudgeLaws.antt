@@ -19,7 +19,7 @@ use Rattle.vcd_declarations.proofs.HeadLaws.{empty-is}
 use Rattle.vcd_declarations.proofs.OnlyFive.{Only, only-five}
 use Rattle.vcd_simulation.specs.declared.body.Body.{Body}
 use Rattle.vcd_simulation.specs.Simulation.{Codes, Went, begun, wordsDone, isOver}
-use Rattle.vcd_simulation.specs.InnerSteps.{codesBy}
+use Rattle.vcd_simulation.specs.Feed.{codesBy}
 use Rattle.vcd_simulation.proofs.SameCodes.{Same, words-same}
 use Rattle.vcd.specs.Dump.{headIn, codesIn, simulated, malformed, unsignalled}
 use Rattle.vcd.specs.InnerJudged.{bodyAfter, isNone, anyNone, malformedBy, unsignalledBy}

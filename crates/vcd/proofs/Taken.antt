@@ -19,7 +19,8 @@ use Rattle.event.proofs.RunLaws.{Bytes, byte-anywhere, sound-event, event-taken
 use Rattle.vcd_words.specs.Words.{words}
 use Rattle.vcd_declarations.specs.Declarations.{cut}
 use Rattle.vcd_simulation.specs.Simulation.{begun}
-use Rattle.vcd.specs.Dump.{codesIn, simulated, malformed, unsignalled, dumpEvents, configIn, badConfig, dumpRefused}
+use Rattle.capture.specs.Refused.{badConfig}
+use Rattle.vcd.specs.Dump.{codesIn, simulated, malformed, unsignalled, dumpEvents, configIn, dumpRefused}
 use Rattle.vcd.specs.Played.{calls}
 use Rattle.vcd.proofs.Calls.{Fits, AllFit, fit-join}
 use Rattle.vcd.proofs.Fitting.{words-fit}
@@ -51,16 +52,16 @@ made-taken config dump b e = first (eqb (length config) 312) e
     fourth true h = absurd (omega (arith, h))
     fourth false h = h
 
-    third : (t : Bool) → pick t 12 (pick (badConfig config) 9 (makingRefused (configIn config) b)) ≡ 0 → makingRefused (configIn config) b ≡ 0
+    third : (t : Bool) → pick t 12 (pick (badConfig config 0) 9 (makingRefused (configIn config) b)) ≡ 0 → makingRefused (configIn config) b ≡ 0
     third true h = absurd (omega (arith, h))
-    third false h = fourth (badConfig config) h
+    third false h = fourth (badConfig config 0) h
 
-    second : (t : Bool) → pick t 11 (pick (unsignalled dump) 12 (pick (badConfig config) 9 (makingRefused (configIn config) b))) ≡ 0
+    second : (t : Bool) → pick t 11 (pick (unsignalled dump) 12 (pick (badConfig config 0) 9 (makingRefused (configIn config) b))) ≡ 0
         → makingRefused (configIn config) b ≡ 0
     second true h = absurd (omega (arith, h))
     second false h = third (unsignalled dump) h
 
-    first : (t : Bool) → pick t (pick (malformed dump) 11 (pick (unsignalled dump) 12 (pick (badConfig config) 9 (makingRefused (configIn config) b)))) 8 ≡ 0
+    first : (t : Bool) → pick t (pick (malformed dump) 11 (pick (unsignalled dump) 12 (pick (badConfig config 0) 9 (makingRefused (configIn config) b)))) 8 ≡ 0
         → makingRefused (configIn config) b ≡ 0
     first true h = second (malformed dump) h
     first false h = absurd (omega (arith, h))

@@ -2,10 +2,11 @@
 use mathlib.Core.Bool.{Bool, _||_, not}
 use mathlib.Core.List.{List, [], _∷_, _++_}
 use Prim.Native.Nat.{ℕ}
-use lib.Dec.{eqb, ltb}
+use lib.Dec.{eqb}
 use lib.ListN.{length}
 use Rattle.base.specs.Pick.{pick}
-use Rattle.capture.specs.Layout.{variantAt, flagsAt, configOf}
+use Rattle.capture.specs.Layout.{configOf}
+use Rattle.capture.specs.Refused.{badConfig}
 use Rattle.config.specs.declared.Uc8253Config.{Uc8253Config}
 use Rattle.controller.specs.World.{Buffers}
 use Rattle.controller.specs.TurnedBack.{makingRefused}
@@ -46,17 +47,13 @@ dumpEvents dump = simulated dump .events ++ (record { time = simulated dump .bod
 unfoldable pub configIn : List ℕ → Uc8253Config
 configIn config = configOf config 0
 
--- 9, of a configuration: variant above 1, a flag bit above bit 2
-unfoldable pub badConfig : List ℕ → Bool
-badConfig config = ltb 1 (variantAt config 0) || ltb 7 (flagsAt config 0)
-
 -- configuration bytes of a wrong length are 8, tested first; then 11, 12, 9 and 1 to 5
 unfoldable pub dumpRefused : List ℕ → List ℕ → Buffers → ℕ
 dumpRefused config dump b =
     pick (eqb (length config) 312)
     (pick (malformed dump) 11
     (pick (unsignalled dump) 12
-    (pick (badConfig config) 9
+    (pick (badConfig config 0) 9
     (makingRefused (configIn config) b))))
     8
 

@@ -11,7 +11,7 @@ use Rattle.vcd_declarations.specs.declared.head.Head.{Head}
 use Rattle.vcd_declarations.specs.declared.head.Begun.{Begun}
 use Rattle.vcd_simulation.specs.declared.body.Body.{Body}
 use Rattle.vcd_simulation.specs.Simulation.{begun, wordsDone, isOver}
-use Rattle.vcd_simulation.specs.InnerSteps.{codesBy}
+use Rattle.vcd_simulation.specs.Feed.{codesBy}
 
 unfoldable pub bodyAfter : List ℕ → Head → ℕ → Body
 bodyAfter dump h at = wordsDone (codesBy dump h) (words (drop at dump)) begun .body

@@ -55,7 +55,7 @@ whole-parts bytes at i h =
 words-from : (bytes : List ℕ) (at i : ℕ) → at ≤ i → front isSolid (drop i bytes) ≡ 0 → words (drop at bytes) ≡ words (part bytes at i) ++ words (drop i bytes)
 words-from bytes at i h s = ap words (whole-parts bytes at i h) ∙ words-join (part bytes at i) (drop i bytes) s
 
-cancel : (us vs ws : List (List ℕ)) → us ++ ws ≡ vs ++ ws → us ≡ vs
+pub cancel : (us vs ws : List (List ℕ)) → us ++ ws ≡ vs ++ ws → us ≡ vs
 cancel us vs ws e =
     let same : length us ≡ length vs = omega (arith, length-append us ws, length-append vs ws, ap length e) in
     sym (take-append-seam us ws) ∙ ap (take (length us)) e ∙ ap (λ (n : ℕ). take n (vs ++ ws)) same ∙ take-append-seam vs ws

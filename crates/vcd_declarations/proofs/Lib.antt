@@ -5,3 +5,4 @@ pub mod CutLaws
 pub mod Going
 pub mod Looking
 pub mod OnlyFive
+pub mod Settled

@@ -23,9 +23,9 @@ use Rattle.vcd_simulation.specs.declared.word.Stepped.{Stepped}
 use Rattle.vcd_simulation.specs.declared.feeding.Fed.{Fed}
 use Rattle.vcd_simulation.specs.Simulation.{Codes, Went, wordDone, wordsDone}
 use Rattle.vcd_simulation.specs.Written.{written, Holds}
-use Rattle.vcd_simulation.specs.InnerSteps.{codesBy, Steps}
+use Rattle.vcd_simulation.specs.InnerSteps.{Steps}
 use Rattle.vcd_simulation.specs.InnerClip.{end, inside, codesInside, headInside, isOpen}
-use Rattle.vcd_simulation.specs.Feed.{wordsBy, behind, Feeds}
+use Rattle.vcd_simulation.specs.Feed.{codesBy, wordsBy, behind, Feeds}
 use Rattle.vcd_simulation.proofs.Holding.{written-join, later}
 
 -- ---- a place that is held to the bytes gives the same code
@@ -87,6 +87,7 @@ pub record Feeding (codes : Codes) (bytes : List ℕ) (at : ℕ) (last : Bool) (
   pub not-back : at ≤ next
   pub inside-bytes : at ≤ length bytes → next ≤ length bytes
   pub moves : 0 < held → at < next
+  pub open-kept : last ≡ false → opened (drop next bytes) ≡ opened (drop at bytes)
 
 pub feeding-start : (codes : Codes) (bytes : List ℕ) (at : ℕ) (last : Bool) (b : Body) (out : List ℕ) → Feeding codes bytes at last b at 0 b out out
 feeding-start codes bytes at last b out = record {
@@ -99,6 +100,7 @@ feeding-start codes bytes at last b out = record {
   not-back = omega arith;
   inside-bytes = λ h. h;
   moves = λ h. absurd (omega (arith, h));
+  open-kept = λ e. refl;
 }
 
 module _ (codes : Codes) (bytes : List ℕ) (at : ℕ) (last : Bool) (b : Body) (next held : ℕ) (body : Body) (out out′ : List ℕ)
@@ -116,13 +118,14 @@ module _ (codes : Codes) (bytes : List ℕ) (at : ℕ) (last : Bool) (b : Body) 
     inside = f .inside-bytes;
     moves = f .moves;
     stops = s;
+    open-kept = f .open-kept;
   }
 
   -- one word more
   pub feeding-more : (w : List ℕ) (to : ℕ) (s : Stepped) (out″ : List ℕ) → next < to → (next ≤ length bytes → to ≤ length bytes)
       → wordsBy last (drop next bytes) ≡ w ∷ wordsBy last (drop to bytes) → held + 20 ≤ length out′ → Steps (wordDone codes w body) held s out′ out″
-      → s .held ≤ length out″ → Feeding codes bytes at last b to (s .held) (s .body) out out″
-  feeding-more w to s out″ l m e room t k = record {
+      → s .held ≤ length out″ → (last ≡ false → opened (drop next bytes) ≡ opened (drop to bytes)) → Feeding codes bytes at last b to (s .held) (s .body) out out″
+  feeding-more w to s out″ l m e room t k o = record {
     events = f .events ++ wordDone codes w body .events;
     all = f .all ∙ ap (λ (ws : List (List ℕ)). behind (f .events) (wordsDone codes ws body)) e
         ∙ ap (λ (x : Body). behind (f .events) (behind ev (wordsDone codes (wordsBy last (drop to bytes)) x))) (sym (t .body-is))
@@ -135,6 +138,7 @@ module _ (codes : Codes) (bytes : List ℕ) (at : ℕ) (last : Bool) (b : Body) 
     not-back = omega (arith, f .not-back, l);
     inside-bytes = λ h. m (f .inside-bytes h);
     moves = λ h. omega (arith, f .not-back, l);
+    open-kept = λ n. sym (o n) ∙ f .open-kept n;
   }
     where
       ev : List Event
@@ -170,6 +174,12 @@ module _ (bytes : List ℕ) (at : ℕ) (s : Span) (n : Next bytes at s) where
       → wordsBy last (drop at bytes) ≡ part bytes (s .from) (s .to) ∷ wordsBy last (drop (s .to) bytes)
   some-by true l e = n .some l
   some-by false l e = n .closes (leb-false (length bytes) (s .to) e)
+
+-- a word that was read and is not the last leaves the open one where it is
+pub open-by-word : (bytes : List ℕ) (at : ℕ) (s : Span) → Next bytes at s → (last : Bool) → isOpen last (s .to) (length bytes) ≡ false
+    → last ≡ false → opened (drop at bytes) ≡ opened (drop (s .to) bytes)
+open-by-word bytes at s n true e h = absurd (false≢true (sym h))
+open-by-word bytes at s n false e h = n .keeps (leb-false (length bytes) (s .to) e)
 
 pub feeds-as : {codes codes′ : Codes} {bytes : List ℕ} {at : ℕ} {last : Bool} {b : Body} {r : Fed} {out out′ : List ℕ} → codes ≡ codes′
     → Feeds codes bytes at last b r out out′ → Feeds codes′ bytes at last b r out out′

@@ -1,18 +1,23 @@
 -- Words of the simulation in some bytes, with their events in a buffer.
 use mathlib.Core.Path.{_≡_}
-use mathlib.Core.Bool.{Bool}
+use mathlib.Core.Bool.{Bool, false}
 use mathlib.Core.List.{List, [], _++_}
 use Prim.Native.Nat.{ℕ, _+_, _≤_, _<_}
 use lib.ListN.{length, take, drop}
 use Rattle.base.specs.Pick.{pick}
 use Rattle.event.specs.declared.Event.{Event}
-use Rattle.vcd_words.specs.Words.{words, closed}
+use Rattle.vcd_words.specs.Words.{words, closed, opened}
 use Rattle.vcd_declarations.specs.declared.head.Head.{Head}
+use Rattle.vcd_declarations.specs.Declarations.{headOf}
+use Rattle.vcd_declarations.specs.Codes.{fiveIn}
 use Rattle.vcd_simulation.specs.declared.body.Body.{Body}
 use Rattle.vcd_simulation.specs.declared.feeding.Fed.{Fed}
 use Rattle.vcd_simulation.specs.Simulation.{Codes, Went, wordsDone}
 use Rattle.vcd_simulation.specs.Written.{written}
-use Rattle.vcd_simulation.specs.InnerSteps.{codesBy}
+
+-- the codes by their places in the head; every code of the five is one of these, but where one was declared twice or wide
+abbrev pub codesBy : List ℕ → Head → Codes
+codesBy head h = record { five = fiveIn head (h .codes); all = pick (h .bad) (headOf (words head) .all) (fiveIn head (h .codes)) }
 
 -- the words of some bytes; the last one counts where the dump ends with it
 abbrev pub wordsBy : Bool → List ℕ → List (List ℕ)
@@ -36,3 +41,5 @@ pub record Feeds (codes : Codes) (bytes : List ℕ) (at : ℕ) (last : Bool) (b 
   pub moves : 0 < r .held → at < r .next
   -- with room for two events more no word is left
   pub stops : r .held + 20 ≤ length out → wordsBy last (drop (r .next) bytes) ≡ []
+  -- a word that is still open lies behind what was read
+  pub open-kept : last ≡ false → opened (drop (r .next) bytes) ≡ opened (drop at bytes)

@@ -3,7 +3,6 @@ ghost use mathlib.Core.Path.{_≡_};
 ghost use Prim.Native.Nat.{_≤_};
 ghost use lib.ListN.{length};
 ghost use Rattle.vcd_declarations.specs.Codes.{AllWithin};
-ghost use Rattle.vcd_simulation.specs.InnerSteps.{codesBy};
 ghost use Rattle.vcd_simulation.specs.InnerClip as clip;
 ghost use Rattle.vcd_simulation.specs.Feed as rule;
 use crate::body::Body;
@@ -93,7 +92,7 @@ fn feed_in(
     out: &mut [u8],
 ) -> Fed
     requires { ⌜ AllWithin (h .codes) (length (now head)) ⌝ }
-    ensures { λ r. ⌜ rule.Feeds (codesBy (now (head .entry)) h) (now (bytes .entry)) at last b r (now (out .entry)) (now (out .exit)) ⌝ }
+    ensures { λ r. ⌜ rule.Feeds (rule.codesBy (now (head .entry)) h) (now (bytes .entry)) at last b r (now (out .entry)) (now (out .exit)) ⌝ }
 {
     let mut body = b;
     let mut next = at;
@@ -130,7 +129,7 @@ pub fn feed(
     b: Body,
     out: &mut [u8],
 ) -> Fed
-    ensures { λ r. ⌜ rule.Feeds (codesBy (now (head .entry)) h) (now (bytes .entry)) at last b r (now (out .entry)) (now (out .exit)) ⌝ }
+    ensures { λ r. ⌜ rule.Feeds (rule.codesBy (now (head .entry)) h) (now (bytes .entry)) at last b r (now (out .entry)) (now (out .exit)) ⌝ }
 {
     let inner = head_inside(h, head.len());
     feed_in(head, inner, bytes, at, last, b, out)

@@ -2,8 +2,9 @@
 use mathlib.Core.Path.{_≡_, refl, sym, ap, _∙_}
 use mathlib.Core.Bool.{Bool, true, false, _&&_, not, false≢true}
 use mathlib.Core.List.{List, [], _∷_, _++_, append-assoc, append-nil}
-use Prim.Native.Nat.{ℕ, zero, suc}
+use Prim.Native.Nat.{ℕ, zero, suc, _<_}
 use native.Mathlib.Omega.{arith}
+use lib.ListN.{length}
 use Rattle.base.specs.Pick.{pick}
 use Rattle.base.proofs.Cases.{by-cases}
 use Rattle.vcd_words.specs.Words.{isBlank, shut, closedFrom, openFrom, closed, opened, words, every}
@@ -84,6 +85,12 @@ shut-then : (w : List ℕ) (ws : List (List ℕ)) → shut w ws ≡ shut w [] ++
 shut-then [] ws = refl
 shut-then (x ∷ w) ws = refl
 
+blank-here : (x : ℕ) (b : List ℕ) → front isSolid (x ∷ b) ≡ 0 → isBlank x ≡ true
+blank-here x b h =
+    by-cases (isBlank x)
+    (λ e. e)
+    (λ e. absurd (omega (arith, sym (ap (λ (t : Bool). pick (not t) (suc (front isSolid b)) 0) e) ∙ h)))
+
 pub words-join : (a b : List ℕ) → front isSolid b ≡ 0 → words (a ++ b) ≡ words a ++ words b
 unfolding words closed opened
 words-join a [] h = rw (append-nil a) (sym (append-nil _))
@@ -93,9 +100,32 @@ words-join a (x ∷ b) h =
     (ap (λ (l : List (List ℕ)). (closedFrom [] a ++ l) ++ shut (openFrom [] b) []) (shut-then (openFrom [] a) (closedFrom [] b))
     ∙ ap (λ (l : List (List ℕ)). l ++ shut (openFrom [] b) []) (sym (append-assoc (closedFrom [] a) (shut (openFrom [] a) []) (closedFrom [] b)))
     ∙ append-assoc (closedFrom [] a ++ shut (openFrom [] a) []) (closedFrom [] b) (shut (openFrom [] b) []))
+
+-- the word that is open behind the blank, and the words that are closed up to there
+pub opened-join : (a b : List ℕ) → front isSolid b ≡ 0 → 0 < length b → opened (a ++ b) ≡ opened b
+unfolding opened
+opened-join a [] h k = absurd (omega (arith, k))
+opened-join a (x ∷ b) h k = rw (cut-open [] a (x ∷ b), blank-here x b h)
+
+pub closed-join : (a b : List ℕ) → front isSolid b ≡ 0 → 0 < length b → closed (a ++ b) ≡ words a ++ closed b
+unfolding words closed opened
+closed-join a [] h k = absurd (omega (arith, k))
+closed-join a (x ∷ b) h k =
+    rw (cut-closed [] a (x ∷ b), blank-here x b h)
+    (ap (λ (l : List (List ℕ)). closedFrom [] a ++ l) (shut-then (openFrom [] a) (closedFrom [] b))
+    ∙ sym (append-assoc (closedFrom [] a) (shut (openFrom [] a) []) (closedFrom [] b)))
+
+-- ---- where a word is closed in the second part, the first has no say in the one that is open at the end
+late-open : (u v w b : List ℕ) → 0 < length (closedFrom u b) → openFrom v b ≡ openFrom w b
+late-open u v w [] k = absurd (omega (arith, k))
+late-open u v w (x ∷ b) k =
+    by-cases (isBlank x)
+    (λ e. rw e)
+    (λ e. rw e (late-open (u ++ x ∷ []) (v ++ x ∷ []) (w ++ x ∷ []) b (on e)))
   where
-    blank-here : (x : ℕ) (b : List ℕ) → front isSolid (x ∷ b) ≡ 0 → isBlank x ≡ true
-    blank-here x b h =
-        by-cases (isBlank x)
-        (λ e. e)
-        (λ e. absurd (omega (arith, sym (ap (λ (t : Bool). pick (not t) (suc (front isSolid b)) 0) e) ∙ h)))
+    on : isBlank x ≡ false → 0 < length (closedFrom (u ++ x ∷ []) b)
+    on e = omega (arith, k, ap (λ (t : Bool). length (pick t (shut u (closedFrom [] b)) (closedFrom (u ++ x ∷ []) b))) e)
+
+pub opened-late : (a b : List ℕ) → 0 < length (closed b) → opened (a ++ b) ≡ opened b
+unfolding closed opened
+opened-late a b k = cut-open [] a b ∙ late-open [] (openFrom [] a) [] b k

@@ -2,4 +2,3 @@ pub mod WordLaws
 pub mod SpanLaws
 pub mod Scanning
 pub mod Cutting
-pub mod Chain

@@ -1,20 +1,21 @@
 -- The next word by its places: it, and the words of what lies behind it.
 use mathlib.Core.Path.{_≡_, refl, sym, ap, _∙_}
 use mathlib.Core.Bool.{Bool, true, false}
-use mathlib.Core.List.{List, [], _∷_}
+use mathlib.Core.List.{List, [], _∷_, _++_}
 use Prim.Native.Nat.{ℕ, suc, _+_, _-_, _≤_, _<_}
 use native.Mathlib.Omega.{arith}
 use native.Mathlib.Nat.{add-zero}
 use borrow.Author.Tests.{lt-ltb, le-ltb, ltb-true, ltb-false}
 use lib.Dec.{ltb}
-use lib.ListN.{length, take, drop, length-drop}
+use lib.ListN.{length, getD, take, drop, length-drop, take-append-drop, drop-of-length-le}
 use lib.Seq.{drop-drop}
 use Rattle.base.specs.Pick.{pick}
 use Rattle.base.proofs.Cases.{by-cases}
-use Rattle.vcd_words.specs.Words.{isBlank, closed, opened, words}
+use Rattle.vcd_words.specs.Words.{isBlank, shut, closed, opened, words}
 use Rattle.vcd_words.specs.declared.Span.{Span}
 use Rattle.vcd_words.specs.Places.{front, isSolid, wordFrom, wordTo, spanAt, part}
 use Rattle.vcd_words.proofs.Scanning.{scan-ends}
+use Rattle.vcd_words.proofs.Cutting.{opened-join}
 use Rattle.vcd_words.proofs.WordLaws.{past-blanks, closed-blanks, first-word, closed-first, front-none, front-most}
 
 -- ---- a word lies in the bytes
@@ -117,6 +118,56 @@ blank-at : (bytes : List ℕ) (at : ℕ) → front isSolid (part bytes at (spanA
 unfolding spanAt
 blank-at bytes at = ap (front isSolid) (sym (part-is bytes at (front isBlank (drop at bytes)))) ∙ no-solid (drop at bytes)
 
+-- ---- the word that is open at the end
+keeps-at : (bytes : List ℕ) (at : ℕ) → spanAt bytes at .to < length bytes → opened (drop at bytes) ≡ opened (drop (spanAt bytes at .to) bytes)
+keeps-at bytes at k =
+    let to = spanAt bytes at .to in
+    let n : ℕ = to - at in
+    let there : at + n ≡ to = omega (arith, span-behind bytes at, span-ordered bytes at) in
+    ap opened (sym (take-append-drop n (drop at bytes))
+    ∙ ap (λ (l : List ℕ). take n (drop at bytes) ++ l) (drop-drop n at bytes ∙ ap (λ (i : ℕ). drop i bytes) there))
+    ∙ opened-join (take n (drop at bytes)) (drop to bytes) (shuts-at bytes at) (omega (arith, k, length-drop to bytes))
+
+shut-one : (v w : List ℕ) → shut v [] ≡ w ∷ [] → v ≡ w
+shut-one [] w e = absurd (omega (arith, ap length e))
+shut-one (x ∷ v) w e = ap (λ (ws : List (List ℕ)). getD ws 0 []) e
+
+shut-none : (v : List ℕ) → shut v [] ≡ [] → v ≡ []
+shut-none [] e = refl
+shut-none (x ∷ v) e = absurd (omega (arith, ap length e))
+
+-- no word is closed, so all words are the one that is open
+only-open : (l : List ℕ) → closed l ≡ [] → words l ≡ shut (opened l) []
+unfolding words
+only-open l e = rw e
+
+no-word : words [] ≡ []
+unfolding words closed opened
+no-word = refl
+
+opens-at : (bytes : List ℕ) (at : ℕ) → at ≤ length bytes → length bytes ≤ spanAt bytes at .to
+    → opened (drop at bytes) ≡ part bytes (spanAt bytes at .from) (spanAt bytes at .to)
+opens-at bytes at h k =
+    by-cases (ltb from to)
+    (λ e. shut-one (opened (drop at bytes)) (part bytes from to) (sym only ∙ word-at bytes at ∙ rw e (ap (λ (ws : List (List ℕ)). part bytes from to ∷ ws) over)))
+    (λ e. shut-none (opened (drop at bytes)) (sym only ∙ word-at bytes at ∙ rw e)
+    ∙ sym (ap (λ (n : ℕ). take n (drop from bytes)) (same (ltb-false from to e))))
+  where
+    from : ℕ
+    from = spanAt bytes at .from
+
+    to : ℕ
+    to = spanAt bytes at .to
+
+    only : words (drop at bytes) ≡ shut (opened (drop at bytes)) []
+    only = only-open (drop at bytes) (closed-at bytes at h ∙ rw (le-ltb to (length bytes) k))
+
+    over : words (drop to bytes) ≡ []
+    over = ap words (drop-of-length-le bytes k) ∙ no-word
+
+    same : to ≤ from → to - from ≡ 0
+    same l = omega (arith, l)
+
 -- ---- what is known of the next word, from a place in the bytes on
 pub record Next (bytes : List ℕ) (at : ℕ) (s : Span) : Type 0 where
   pub behind : at ≤ s .from
@@ -134,6 +185,9 @@ pub record Next (bytes : List ℕ) (at : ℕ) (s : Span) : Type 0 where
   -- a blank closes it, or the bytes end with it
   pub closes : s .to < length bytes → closed (drop at bytes) ≡ part bytes (s .from) (s .to) ∷ closed (drop (s .to) bytes)
   pub ends : length bytes ≤ s .to → closed (drop at bytes) ≡ []
+  -- the word that is open at the end lies behind it, or is it
+  pub keeps : s .to < length bytes → opened (drop at bytes) ≡ opened (drop (s .to) bytes)
+  pub opens : length bytes ≤ s .to → opened (drop at bytes) ≡ part bytes (s .from) (s .to)
 
 pub next-is : (bytes : List ℕ) (at : ℕ) (s : Span) → s ≡ spanAt bytes at → at ≤ length bytes → Next bytes at s
 next-is bytes at s e h = rw e (record {
@@ -148,4 +202,6 @@ next-is bytes at s e h = rw e (record {
   none = λ k. word-at bytes at ∙ rw (le-ltb (spanAt bytes at .from) (spanAt bytes at .to) (omega (arith, k)));
   closes = λ k. closed-at bytes at h ∙ rw (lt-ltb (spanAt bytes at .to) (length bytes) k);
   ends = λ k. closed-at bytes at h ∙ rw (le-ltb (spanAt bytes at .to) (length bytes) k);
+  keeps = keeps-at bytes at;
+  opens = opens-at bytes at h;
 })

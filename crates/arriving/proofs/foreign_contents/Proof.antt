@@ -1,5 +1,5 @@
 -- `arriving::foreign_contents` meets its contract, by its two tests.
-use Rattle.controller.proofs.Chain.{yes, no}
+use Rattle.base.proofs.Chain.{yes, no}
 use mathlib.Core.Path.{refl, sym, _∙_}
 use Rattle.arriving.specs.InnerSteps.{seven}
 use borrow.Author.Needs.{needs}

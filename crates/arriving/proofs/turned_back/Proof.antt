@@ -1,6 +1,6 @@
 -- `arriving::turned_back` meets its contract, by 6, 5 and 7 in order.
 use Rattle.arriving.proofs.Refusals.{not-both, contents}
-use Rattle.controller.proofs.Chain.{yes, no}
+use Rattle.base.proofs.Chain.{yes, no}
 use mathlib.Core.Path.{refl, sym, _∙_}
 use Rattle.controller.specs.TurnedBack.{turnedBack}
 use borrow.Author.Needs.{needs}

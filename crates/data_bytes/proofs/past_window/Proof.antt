@@ -1,7 +1,7 @@
 -- `data_bytes::past_window` meets its contract, by whether it was reported.
 use Rattle.rules.proofs.Changed.{changed, then}
 use Rattle.controller.specs.DataByte.{pastWindow, under, pastOf}
-use Rattle.controller.proofs.Chain.{yes, no}
+use Rattle.base.proofs.Chain.{yes, no}
 use borrow.Author.Needs.{needs}
 use Rattle.data_bytes.proofs.past_window.Statement.{statement}
 use Rattle.data_bytes.proofs.past_window.Tie as tie

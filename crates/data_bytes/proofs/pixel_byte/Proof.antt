@@ -4,7 +4,7 @@ use Rattle.controller.specs.World.{world}
 use Rattle.controller.specs.Setters.{withRows, withOld, withNew}
 use Rattle.controller.specs.DataByte.{olderByte, newerByte}
 use borrow.Author.Tests.{lt-ltb, le-ltb}
-use Rattle.controller.proofs.Chain.{yes}
+use Rattle.base.proofs.Chain.{yes}
 use borrow.Author.Needs.{needs}
 use Rattle.data_bytes.proofs.pixel_byte.Statement.{statement}
 use Rattle.data_bytes.proofs.pixel_byte.Tie as tie

@@ -2,7 +2,7 @@
 use Rattle.controller.specs.TurnedBack.{makingRefused}
 use Rattle.base.proofs.RefusalWords.{told}
 use mathlib.Core.Path.{refl, sym, _∙_}
-use Rattle.controller.proofs.Chain.{yes, no}
+use Rattle.base.proofs.Chain.{yes, no}
 use borrow.Author.Needs.{needs}
 use Rattle.making.proofs.making_refused.Statement.{statement}
 use Rattle.making.proofs.making_refused.Tie as tie

@@ -1,5 +1,5 @@
 -- `questions::lent_refused` meets its contract, by 6, then 5.
-use Rattle.controller.proofs.Chain.{yes, no}
+use Rattle.base.proofs.Chain.{yes, no}
 use mathlib.Core.Path.{refl, sym, _∙_}
 use Rattle.controller.specs.TurnedBack.{lentRefused}
 use borrow.Author.Needs.{needs}

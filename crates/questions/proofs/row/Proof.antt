@@ -9,7 +9,7 @@ use borrow.Author.Tests.{lt-ltb, le-ltb, eqb-true}
 use mathlib.Core.List.{[]}
 use Rattle.controller.specs.Ask as ask
 use mathlib.Core.Path.{refl, ap}
-use Rattle.controller.proofs.Chain.{yes, no}
+use Rattle.base.proofs.Chain.{yes, no}
 use borrow.Author.Needs.{needs}
 use Rattle.questions.proofs.row.Statement.{statement}
 use Rattle.questions.proofs.row.Tie as tie

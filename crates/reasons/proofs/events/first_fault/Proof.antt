@@ -29,7 +29,7 @@ returns c =
     let kind = value .before in
     let l = kind .before .before .loop in
     let a = kind .before .before .before .before .args in
-    let unlisted = sym (test .allowed .ensures) ∙ not-true _ (c .before .if1 .taken) in
+    let unlisted = sym (test .listed .ensures) ∙ not-true _ (c .before .if1 .taken) in
     let turn = kind .before .loop-test .taken in
     c .fault .ensures
     ∙ fault-here (a .file .now) (l .i) (a .count) turn (kind .byte .ensures) (value .byte2 .ensures) unlisted
@@ -42,7 +42,7 @@ loop-again c =
     let kind = value .before in
     let l = kind .before .before .loop in
     let a = kind .before .before .before .before .args in
-    let is-listed = sym (test .allowed .ensures) ∙ not-false _ (c .if1 .left) in
+    let is-listed = sym (test .listed .ensures) ∙ not-false _ (c .if1 .left) in
     let turn = kind .before .loop-test .taken in
     let later = fault-later (a .file .now) (l .i) (a .count) turn (kind .byte .ensures) (value .byte2 .ensures) is-listed in
     (l .inv .0 ∙ later, omega arith)

@@ -5,7 +5,7 @@ use Rattle.base.specs.Pick.{oneOf}
 use native.Mathlib.Omega.{arith}
 use Prim.Native.Nat.{ℕ, _≤_, _<_}
 use mathlib.Core.List.{List, [], _∷_}
-use Rattle.controller.proofs.Chain.{yes, no, not-either}
+use Rattle.base.proofs.Chain.{yes, no, not-either}
 use Rattle.controller.specs.Command.{barredNote}
 use mathlib.Core.Path.{_≡_, refl, sym, _∙_}
 use borrow.Author.Tests.{ne-eqb}

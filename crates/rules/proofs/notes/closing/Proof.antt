@@ -9,7 +9,7 @@ use Prim.Native.Nat.{ℕ, _≤_, _<_}
 use mathlib.Core.Bool.{true, false}
 use mathlib.Core.Path.{_≡_, refl, sym, _∙_, ap}
 use Rattle.controller.specs.Command.{closingNote}
-use Rattle.controller.proofs.Chain.{yes, no}
+use Rattle.base.proofs.Chain.{yes, no}
 use borrow.Author.Needs.{needs}
 use Rattle.rules.proofs.notes.closing.Statement.{statement}
 use Rattle.rules.proofs.notes.closing.Tie as tie

@@ -1,5 +1,5 @@
 -- `rules::refused::bad_area` meets its contract, by its four tests.
-use Rattle.controller.proofs.Chain.{passed}
+use Rattle.base.proofs.Chain.{passed}
 use Rattle.controller.specs.TurnedBack.{badArea}
 use mathlib.Core.Path.{refl}
 use borrow.Author.Tests.{lt-ltb, le-ltb}

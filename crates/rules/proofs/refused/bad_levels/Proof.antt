@@ -1,5 +1,5 @@
 -- `rules::refused::bad_levels` meets its contract, by its three tests.
-use Rattle.controller.proofs.Chain.{passed}
+use Rattle.base.proofs.Chain.{passed}
 use Rattle.controller.specs.TurnedBack.{badLevels}
 use mathlib.Core.Path.{refl}
 use borrow.Author.Tests.{lt-ltb, le-ltb}

@@ -1,7 +1,7 @@
 -- `rules::refused::ends_refresh` meets its contract, by what runs, its end and the reset line.
 use Rattle.controller.specs.TurnedBack.{refreshRuns, endsRefresh}
 use lib.Dec.{leb}
-use Rattle.controller.proofs.Chain.{also, held, passed}
+use Rattle.base.proofs.Chain.{also, held, passed}
 use mathlib.Core.Path.{sym, _∙_, ap}
 use borrow.Author.Tests.{le-leb, lt-leb}
 use borrow.Author.Needs.{needs}

@@ -1,5 +1,5 @@
 -- `rules::refused::foreign` meets its contract, part by part.
-use Rattle.controller.proofs.Chain.{held, passed}
+use Rattle.base.proofs.Chain.{held, passed}
 use mathlib.Core.Path.{refl, sym, _∙_}
 use Rattle.controller.specs.TurnedBack.{foreignRecord}
 use borrow.Author.Needs.{needs}

@@ -1,5 +1,5 @@
 -- `rules::uses::purpose` meets its contract, by whether the command takes the byte, then by its kind.
-use Rattle.controller.proofs.Chain.{yes}
+use Rattle.base.proofs.Chain.{yes}
 use Rattle.controller.specs.DataByte.{purposeOf}
 use mathlib.Core.Path.{sym, _∙_}
 use borrow.Author.Needs.{needs}

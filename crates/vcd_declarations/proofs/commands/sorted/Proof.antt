@@ -1,6 +1,6 @@
 -- `vcd_declarations::commands::sorted` meets its contract: the keywords in turn.
 use mathlib.Core.Path.{_≡_, refl, sym, _∙_}
-use Rattle.vcd_words.proofs.Chain.{yes, no}
+use Rattle.base.proofs.Chain.{yes, no}
 use Rattle.vcd_declarations.specs.Declarations.{keywordOf}
 use borrow.Author.Needs.{needs}
 use Rattle.vcd_declarations.proofs.commands.sorted.Statement.{statement}

@@ -3,7 +3,7 @@ use mathlib.Core.Path.{_≡_, sym, ap, _∙_}
 use lib.ListN.{length}
 use Rattle.vcd_declarations.specs.Codes.{AllWithin}
 use Rattle.vcd_declarations.specs.declared.head.Head.{Head}
-use Rattle.vcd_simulation.specs.InnerSteps.{codesBy}
+use Rattle.vcd_simulation.specs.Feed.{codesBy}
 use Rattle.vcd_simulation.proofs.FeedLaws.{head-in, head-same, feeds-as}
 use borrow.Author.Needs.{needs}
 use Rattle.vcd_simulation.proofs.feeding.feed.Statement.{statement}

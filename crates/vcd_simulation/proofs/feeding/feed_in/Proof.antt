@@ -5,8 +5,8 @@ use native.Mathlib.Omega.{arith}
 use borrow.Author.Needs.{needs}
 use lib.ListN.{length, drop}
 use Rattle.vcd_words.proofs.SpanLaws.{next-is}
-use Rattle.vcd_simulation.specs.InnerSteps.{codesBy}
-use Rattle.vcd_simulation.proofs.FeedLaws.{Feeding, feeding-start, feeding-stops, feeding-more, held-inside, none-by, over-by, open-by, some-by}
+use Rattle.vcd_simulation.specs.Feed.{codesBy}
+use Rattle.vcd_simulation.proofs.FeedLaws.{Feeding, feeding-start, feeding-stops, feeding-more, held-inside, none-by, over-by, open-by, some-by, open-by-word}
 use Rattle.vcd_simulation.proofs.feeding.feed_in.Statement.{statement}
 use Rattle.vcd_simulation.proofs.feeding.feed_in.Tie as tie
 
@@ -116,6 +116,7 @@ loop-again c =
     feeding-more (codesBy (a .head .now) (a .h)) bytes (a .at) (a .last) (a .b) (l .next) (l .held) (l .body) (a .out .now) (l .out) (l .inv) _ (c .before .before .before .before .before .before .before .before .before .before .next-word .result .to) (c .before .before .before .word-done .result) _ (omega (arith, next .behind, some)) (λ k. next .inside)
     (some-by bytes (l .next) (c .before .before .before .before .before .before .before .before .before .before .next-word .result) next (a .last) some (sym (c .before .before .before .before .before .before .before .before .is-open .ensures) ∙ c .before .before .before .before .before .before .before .if2 .left))
     (omega (arith, c .before .before .before .before .before .before .if3 .left, l .inv .held-in)) step (held-inside _ _ _ _ _ (step .holds) (l .inv .held-in))
+    (open-by-word bytes (l .next) (c .before .before .before .before .before .before .before .before .before .before .next-word .result) next (a .last) (sym (c .before .before .before .before .before .before .before .before .is-open .ensures) ∙ c .before .before .before .before .before .before .before .if2 .left))
 
 same-length-4 : tie.Need-same-length-4 Inv-loop μ-loop
 same-length-4 c =

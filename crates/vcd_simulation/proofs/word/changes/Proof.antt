@@ -2,7 +2,7 @@
 use mathlib.Core.Path.{_≡_, refl, sym, ap, _∙_}
 use borrow.Author.Tests.{eq-eqb, ne-eqb}
 use Rattle.vcd_simulation.specs.Simulation.{changes}
-use Rattle.vcd_simulation.specs.InnerSteps.{codesBy}
+use Rattle.vcd_simulation.specs.Feed.{codesBy}
 use Rattle.vcd_simulation.proofs.StepLaws.{still, unknown-quiet, unknown-change}
 use borrow.Author.Needs.{needs}
 use Rattle.vcd_simulation.proofs.word.changes.Statement.{statement}

@@ -4,7 +4,7 @@ use borrow.Author.Tests.{lt-ltb, le-ltb, eq-eqb, ne-eqb}
 use lib.ListN.{getD, drop}
 use Rattle.vcd_values.proofs.Parts.{from-place}
 use Rattle.vcd_simulation.specs.Simulation.{timed}
-use Rattle.vcd_simulation.specs.InnerSteps.{codesBy}
+use Rattle.vcd_simulation.specs.Feed.{codesBy}
 use Rattle.vcd_values.specs.Numbers.{timeOf}
 use Rattle.vcd_simulation.proofs.StepLaws.{still, timed-quiet, key-quiet, command-none, command-some}
 use borrow.Author.Needs.{needs}

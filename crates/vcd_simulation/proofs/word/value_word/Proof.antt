@@ -4,7 +4,7 @@ use borrow.Author.Tests.{lt-ltb, le-ltb, eq-eqb, ne-eqb}
 use lib.ListN.{getD, drop}
 use Rattle.vcd_values.proofs.Parts.{from-place}
 use Rattle.vcd_simulation.specs.Simulation.{apartLevel}
-use Rattle.vcd_simulation.specs.InnerSteps.{codesBy}
+use Rattle.vcd_simulation.specs.Feed.{codesBy}
 use Rattle.vcd_simulation.proofs.StepLaws.{still, apart-quiet, value-none, value-some}
 use borrow.Author.Needs.{needs}
 use Rattle.vcd_simulation.proofs.word.value_word.Statement.{statement}

@@ -1,7 +1,7 @@
 -- `vcd_simulation::word::word_done` meets its contract: by what may come next.
 use mathlib.Core.Path.{_≡_, refl, sym, ap, _∙_}
 use Rattle.vcd_simulation.specs.Simulation.{breaks, textWord}
-use Rattle.vcd_simulation.specs.InnerSteps.{codesBy}
+use Rattle.vcd_simulation.specs.Feed.{codesBy}
 use Rattle.vcd_simulation.proofs.StepLaws.{still, text-quiet, steps-as, done-by}
 use borrow.Author.Needs.{needs}
 use Rattle.vcd_simulation.proofs.word.word_done.Statement.{statement}
