@@ -1,0 +1,2 @@
+pub mod PlayingLaws
+pub mod MakingLaws
