@@ -1,11 +1,13 @@
 -- Events as a capture has them: the run of their bytes is their calls, one by one.
 use mathlib.Core.Path.{_≡_, refl, sym, ap, _∙_}
+use mathlib.Core.Bool.{true}
 use mathlib.Core.List.{List, [], _∷_, _++_}
 use Prim.Native.Nat.{ℕ, zero, suc, _+_, _*_, _/_, _%_, _^_, _≤_, _<_}
 use native.Mathlib.Nat.{pow-succ'}
 use native.Mathlib.Omega.{arith}
 use lib.ListN.{length, getD, drop, length-append}
 use Rattle.capture.specs.Little.{little}
+use Rattle.capture.specs.Refused.{listed}
 use Rattle.controller.specs.World.{World}
 use Rattle.event.specs.declared.Event.{Event}
 use Rattle.event.specs.Events.{eventAt, eventDone, ran}
@@ -13,11 +15,12 @@ use Rattle.event.proofs.RunLaws.{ran-first, ran-none}
 use Rattle.vcd_simulation.specs.Written.{lowest, eventBytes, written}
 use Rattle.vcd.specs.Played.{calls}
 
--- what ten bytes can hold
+-- what a capture can hold: numbers that ten bytes have room for, and a kind and a value that are listed
 pub record Fits (e : Event) : Type 0 where
   pub time-fits : e .time < 0x1_0000_0000_0000_0000
   pub kind-fits : e .kind < 256
   pub value-fits : e .value < 256
+  pub listed-fits : listed (e .kind) (e .value) ≡ true
 
 pub data AllFit : List Event → Type 0 where
   no-event : AllFit []
@@ -28,7 +31,7 @@ little-rest : (b : ℕ) (l : List ℕ) (at n : ℕ) → little (b ∷ l) (suc at
 little-rest b l at zero = refl
 little-rest b l at (suc n) = ap (λ (x : ℕ). getD l at 0 + 256 * x) (little-rest b l (suc at) n)
 
-lowest-number : (n x : ℕ) (r : List ℕ) → x < 256 ^ n → little (lowest n x ++ r) 0 n ≡ x
+pub lowest-number : (n x : ℕ) (r : List ℕ) → x < 256 ^ n → little (lowest n x ++ r) 0 n ≡ x
 lowest-number zero x r h = omega (arith, h)
 lowest-number (suc n) x r h =
     let rest : little (x % 256 ∷ (lowest n (x / 256) ++ r)) 1 n ≡ x / 256 =

@@ -1,4 +1,4 @@
--- Every event of a dump is one that ten bytes can hold.
+-- Every event of a dump is one that a capture can hold: its numbers fit ten bytes, and it is listed.
 use mathlib.Core.Path.{_≡_, refl, sym, ap, _∙_}
 use mathlib.Core.Bool.{Bool, true, false, _&&_}
 use mathlib.Core.List.{List, [], _∷_, _++_}
@@ -9,6 +9,7 @@ use lib.ListN.{getD}
 use Rattle.base.specs.Pick.{pick}
 use Rattle.base.proofs.Cases.{both}
 use Rattle.text.specs.Text.{ascii}
+use Rattle.capture.specs.Refused.{listed}
 use Rattle.event.specs.declared.Event.{Event}
 use Rattle.vcd_words.specs.Words.{words, alike, among}
 use Rattle.vcd_values.specs.Numbers.{timeOf}
@@ -38,15 +39,27 @@ remainder : (x : ℕ) → x % 256 < 256
 remainder x = omega arith
 
 byte-fits : (t v : ℕ) (b : Bus) → t < limit → AllFit (byteEvents t v b)
+unfolding listed
 byte-fits t v b h =
     both AllFit (takes v b && eqb (b .bits) 7)
-    (AllFit.one-more (record { time-fits = h; kind-fits = both (λ k. k < 256) (eqb (b .dc) 0) (omega arith) (omega arith); value-fits = remainder (2 * b .byte + b .mosi) }) AllFit.no-event)
+    (AllFit.one-more (record {
+      time-fits = h;
+      kind-fits = both (λ k. k < 256) (eqb (b .dc) 0) (omega arith) (omega arith);
+      value-fits = remainder (2 * b .byte + b .mosi);
+      listed-fits = both (λ k. listed k (shifted b) ≡ true) (eqb (b .dc) 0) refl refl;
+    }) AllFit.no-event)
     AllFit.no-event
 
 reset-fits : (t v : ℕ) (b : Bus) → t < limit → AllFit (resetEvents t v b)
+unfolding listed
 reset-fits t v b h =
     both AllFit (eqb (b .rst) v) AllFit.no-event
-    (AllFit.one-more (record { time-fits = h; kind-fits = omega arith; value-fits = both (λ k. k < 256) (eqb v 0) (omega arith) (omega arith) }) AllFit.no-event)
+    (AllFit.one-more (record {
+      time-fits = h;
+      kind-fits = omega arith;
+      value-fits = both (λ k. k < 256) (eqb v 0) (omega arith) (omega arith);
+      listed-fits = both (λ k. listed 4 k ≡ true) (eqb v 0) refl refl;
+    }) AllFit.no-event)
 
 code-fits : (codes : List (List ℕ)) (code : List ℕ) (t v : ℕ) (b : Bus) → t < limit → AllFit (codeMakes codes code 5 t v b)
 code-fits codes code t v b h =

@@ -21,8 +21,8 @@ use Rattle.vcd_simulation.specs.declared.body.Body.{Body}
 use Rattle.vcd_simulation.specs.Simulation.{Codes, Went, begun, wordsDone, isOver}
 use Rattle.vcd_simulation.specs.Feed.{codesBy}
 use Rattle.vcd_simulation.proofs.SameCodes.{Same, words-same}
-use Rattle.vcd.specs.Dump.{headIn, codesIn, simulated, malformed, unsignalled}
-use Rattle.vcd.specs.InnerJudged.{bodyAfter, isNone, anyNone, malformedBy, unsignalledBy}
+use Rattle.vcd.specs.Dump.{headIn, codesIn, simulated, malformed, unsignalled, judged}
+use Rattle.vcd.specs.Judging.{bodyAfter, isNone, anyNone, malformedBy, unsignalledBy, judgedBy}
 
 module _ (dump : List ℕ) (b : Begun) (g : Begins dump b) where
   -- the codes by their places are those that the declarations give
@@ -65,6 +65,10 @@ module _ (dump : List ℕ) (b : Begun) (g : Begins dump b) where
       or-none : (t : Bool) → t ≡ (t || false)
       or-none true = refl
       or-none false = refl
+
+  pub judged-is : (body : Body) → body ≡ bodyAfter dump (b .head) (b .next) → judgedBy b body ≡ judged dump
+  unfolding judgedBy judged
+  judged-is body e = rw (malformed-is body e, unsignalled-is)
 
 -- ---- no word is left
 pub rest-none : (codes : Codes) (ws : List (List ℕ)) (body : Body) {x : Body} → body ≡ x → ws ≡ [] → body ≡ wordsDone codes ws x .body

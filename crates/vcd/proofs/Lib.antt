@@ -8,3 +8,5 @@ pub mod JudgeLaws
 pub mod Calls
 pub mod Fitting
 pub mod Taken
+pub mod Captured
+pub mod CapturedExample

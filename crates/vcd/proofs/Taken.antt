@@ -6,6 +6,7 @@ use Prim.Native.Nat.{ℕ, _<_}
 use native.Mathlib.Omega.{arith}
 use lib.Dec.{eqb}
 use lib.ListN.{length, getD}
+use borrow.Author.Tests.{eqb-true}
 use Rattle.base.specs.Pick.{pick}
 use Rattle.base.proofs.Cases.{by-cases}
 use Rattle.controller.specs.World.{World, Buffers}
@@ -19,7 +20,7 @@ use Rattle.event.proofs.RunLaws.{Bytes, byte-anywhere, sound-event, event-taken
 use Rattle.vcd_words.specs.Words.{words}
 use Rattle.vcd_declarations.specs.Declarations.{cut}
 use Rattle.vcd_simulation.specs.Simulation.{begun}
-use Rattle.capture.specs.Refused.{badConfig}
+use Rattle.capture.specs.Refused.{badConfig, listed}
 use Rattle.vcd.specs.Dump.{codesIn, simulated, malformed, unsignalled, dumpEvents, configIn, dumpRefused}
 use Rattle.vcd.specs.Played.{calls}
 use Rattle.vcd.proofs.Calls.{Fits, AllFit, fit-join}
@@ -37,34 +38,35 @@ sound-taken (e ∷ es) (AllFit.one-more f fs) w s =
 
 -- the events of a dump fit, the last advance with them
 pub dump-fits : (dump : List ℕ) → AllFit (dumpEvents dump)
-unfolding dumpEvents simulated
+unfolding dumpEvents simulated listed
 dump-fits dump =
     let all = words-fit (codesIn dump) (cut (words dump) .rest) begun (omega arith) in
     fit-join (simulated dump .events) _ (all .1)
-    (AllFit.one-more (record { time-fits = all .0; kind-fits = omega arith; value-fits = omega arith }) AllFit.no-event)
+    (AllFit.one-more (record { time-fits = all .0; kind-fits = omega arith; value-fits = omega arith; listed-fits = refl }) AllFit.no-event)
 
--- a dump that is not refused has a making that is not
-made-taken : (config dump : List ℕ) (b : Buffers) → dumpRefused config dump b ≡ 0 → makingRefused (configIn config) b ≡ 0
+-- ---- what a dump has that is not refused
+pub record Passed (config : List ℕ) (b : Buffers) : Type 0 where
+  pub length-is : length config ≡ 312
+  pub config-good : badConfig config 0 ≡ false
+  pub making-taken : makingRefused (configIn config) b ≡ 0
+
+-- 0 comes out of a test that could give another number: so it went the other way
+second : (t : Bool) {n x : ℕ} → (n ≡ 0 → ⊥) → pick t n x ≡ 0 → (t ≡ false) × (x ≡ 0)
+second true h e = absurd (h e)
+second false h e = (refl, e)
+
+first : (t : Bool) {n x : ℕ} → (n ≡ 0 → ⊥) → pick t x n ≡ 0 → (t ≡ true) × (x ≡ 0)
+first true h e = (refl, e)
+first false h e = absurd (h e)
+
+pub passed : (config dump : List ℕ) (b : Buffers) → dumpRefused config dump b ≡ 0 → Passed config b
 unfolding dumpRefused
-made-taken config dump b e = first (eqb (length config) 312) e
-  where
-    fourth : (t : Bool) → pick t 9 (makingRefused (configIn config) b) ≡ 0 → makingRefused (configIn config) b ≡ 0
-    fourth true h = absurd (omega (arith, h))
-    fourth false h = h
-
-    third : (t : Bool) → pick t 12 (pick (badConfig config 0) 9 (makingRefused (configIn config) b)) ≡ 0 → makingRefused (configIn config) b ≡ 0
-    third true h = absurd (omega (arith, h))
-    third false h = fourth (badConfig config 0) h
-
-    second : (t : Bool) → pick t 11 (pick (unsignalled dump) 12 (pick (badConfig config 0) 9 (makingRefused (configIn config) b))) ≡ 0
-        → makingRefused (configIn config) b ≡ 0
-    second true h = absurd (omega (arith, h))
-    second false h = third (unsignalled dump) h
-
-    first : (t : Bool) → pick t (pick (malformed dump) 11 (pick (unsignalled dump) 12 (pick (badConfig config 0) 9 (makingRefused (configIn config) b)))) 8 ≡ 0
-        → makingRefused (configIn config) b ≡ 0
-    first true h = second (malformed dump) h
-    first false h = absurd (omega (arith, h))
+passed config dump b e =
+    let long = first (eqb (length config) 312) (λ z. omega (arith, z)) e in
+    let formed = second (malformed dump) (λ z. omega (arith, z)) (long .1) in
+    let signalled = second (unsignalled dump) (λ z. omega (arith, z)) (formed .1) in
+    let good = second (badConfig config 0) (λ z. omega (arith, z)) (signalled .1) in
+    record { length-is = eqb-true _ _ (long .0); config-good = good .0; making-taken = good .1 }
 
 -- the configuration's bytes are bytes, as every lent byte is
 pub every-taken : (config dump : List ℕ) (b : Buffers) → Bytes config → dumpRefused config dump b ≡ 0
@@ -72,4 +74,4 @@ pub every-taken : (config dump : List ℕ) (b : Buffers) → Bytes config → du
 unfolding configIn
 every-taken config dump b bytes e =
     sound-taken (dumpEvents dump) (dump-fits dump) (made (configIn config) b)
-    (sound-made (configIn config) b (byte-anywhere config bytes 6) (made-taken config dump b e))
+    (sound-made (configIn config) b (byte-anywhere config bytes 6) (passed config dump b e .making-taken))

@@ -10,7 +10,7 @@ use Rattle.vcd.specs.Writer.{event, declarations, timeWord, eventWords, 
 use Rattle.vcd.proofs.ReadBack.{accepted, signalled, read-back}
 
 -- 00 3F, 04, 22 80 01 00 00 00 01, 13 F0, 12, and an advance at 3,100
-abbrev worked : List Event
+abbrev pub worked : List Event
 worked =
     event 0 1 0x00
     ∷ event 0 2 0x3f

@@ -1,4 +1,5 @@
 pub mod Dump
 pub mod Writer
-pub mod InnerJudged
+pub mod Judging
 pub mod Played
+pub mod Captured

@@ -1,7 +1,7 @@
 // Whether a dump is malformed, or one of the five signals is wanting. Its events are not kept.
 ghost use mathlib.Core.Path.{_≡_};
 ghost use Rattle.vcd.specs.Dump as rule;
-ghost use Rattle.vcd.specs.InnerJudged as inner;
+ghost use Rattle.vcd.specs.Judging as by;
 use vcd_declarations::Begun;
 use vcd_declarations::Codes;
 use vcd_declarations::Head;
@@ -27,7 +27,7 @@ const FREE: usize = 20;
 
 // The body after all words from a place of the dump on.
 fn simulate(dump: &[u8], h: Head, at: usize) -> Body
-    ensures { λ r. ⌜ r ≡ inner.bodyAfter (now (dump .entry)) h at ⌝ }
+    ensures { λ r. ⌜ r ≡ by.bodyAfter (now (dump .entry)) h at ⌝ }
 {
     let mut out = [0u8; ROOM];
     let mut body = begun();
@@ -44,14 +44,14 @@ fn simulate(dump: &[u8], h: Head, at: usize) -> Body
 }
 
 fn is_none(s: Span) -> bool
-    ensures { λ r. ⌜ r ≡ inner.isNone s ⌝ }
+    ensures { λ r. ⌜ r ≡ by.isNone s ⌝ }
 {
     s.from == s.to
 }
 
 // One of the five has no code.
 fn any_none(c: Codes) -> bool
-    ensures { λ r. ⌜ r ≡ inner.anyNone c ⌝ }
+    ensures { λ r. ⌜ r ≡ by.anyNone c ⌝ }
 {
     if is_none(c.cs) {
         return true;
@@ -70,7 +70,7 @@ fn any_none(c: Codes) -> bool
 
 // A break of the syntax.
 fn is_malformed(b: Begun, body: Body) -> bool
-    ensures { λ r. ⌜ r ≡ inner.malformedBy b body ⌝ }
+    ensures { λ r. ⌜ r ≡ by.malformedBy b body ⌝ }
 {
     let h = b.head;
     if h.broken {
@@ -86,13 +86,27 @@ fn is_malformed(b: Begun, body: Body) -> bool
 }
 
 fn is_unsignalled(h: Head) -> bool
-    ensures { λ r. ⌜ r ≡ inner.unsignalledBy h ⌝ }
+    ensures { λ r. ⌜ r ≡ by.unsignalledBy h ⌝ }
 {
     if h.bad {
         return true;
     }
     let codes = h.codes;
     any_none(codes)
+}
+
+// What turns a dump back, by what its declarations say and the body after its last word.
+pub fn verdict(b: Begun, body: Body) -> Judged
+    ensures { λ r. ⌜ r ≡ by.judgedBy b body ⌝ }
+{
+    if is_malformed(b, body) {
+        return Judged::Malformed;
+    }
+    let h = b.head;
+    if is_unsignalled(h) {
+        return Judged::Unsignalled;
+    }
+    Judged::Fine
 }
 
 // What turns a dump back, if anything does.
@@ -103,11 +117,5 @@ pub fn judge(dump: &[u8]) -> Judged
     let h = b.head;
     let at = b.next;
     let body = simulate(dump, h, at);
-    if is_malformed(b, body) {
-        return Judged::Malformed;
-    }
-    if is_unsignalled(h) {
-        return Judged::Unsignalled;
-    }
-    Judged::Fine
+    verdict(b, body)
 }

@@ -3,3 +3,4 @@ mod judging;
 
 pub use judging::Judged;
 pub use judging::judge;
+pub use judging::verdict;

@@ -129,3 +129,26 @@ late-open u v w (x ∷ b) k =
 pub opened-late : (a b : List ℕ) → 0 < length (closed b) → opened (a ++ b) ≡ opened b
 unfolding closed opened
 opened-late a b k = cut-open [] a b ∙ late-open [] (openFrom [] a) [] b k
+
+-- ---- without a blank the word stays open
+solid-both : (x : ℕ) (b : List ℕ) → front isSolid (x ∷ b) ≡ suc (length b) → (isBlank x ≡ false) × (front isSolid b ≡ length b)
+solid-both x b h =
+    by-cases (isBlank x)
+    (λ e. absurd (omega (arith, sym (ap (λ (t : Bool). pick (not t) (suc (front isSolid b)) 0) e) ∙ h)))
+    (λ e. (e, omega (arith, sym (ap (λ (t : Bool). pick (not t) (suc (front isSolid b)) 0) e) ∙ h)))
+
+none-closed : (w b : List ℕ) → front isSolid b ≡ length b → closedFrom w b ≡ []
+none-closed w [] h = refl
+none-closed w (x ∷ b) h = let s = solid-both x b h in rw (s .0) (none-closed (w ++ x ∷ []) b (s .1))
+
+all-open : (w b : List ℕ) → front isSolid b ≡ length b → openFrom w b ≡ w ++ b
+all-open w [] h = sym (append-nil w)
+all-open w (x ∷ b) h = let s = solid-both x b h in rw (s .0) (all-open (w ++ x ∷ []) b (s .1) ∙ append-assoc w (x ∷ []) b)
+
+pub stays-closed : (a b : List ℕ) → front isSolid b ≡ length b → closed (a ++ b) ≡ closed a
+unfolding closed
+stays-closed a b h = cut-closed [] a b ∙ ap (λ (l : List (List ℕ)). closedFrom [] a ++ l) (none-closed (openFrom [] a) b h) ∙ append-nil (closedFrom [] a)
+
+pub stays-open : (a b : List ℕ) → front isSolid b ≡ length b → opened (a ++ b) ≡ opened a ++ b
+unfolding opened
+stays-open a b h = cut-open [] a b ∙ all-open (openFrom [] a) b h

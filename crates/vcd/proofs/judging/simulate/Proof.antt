@@ -7,7 +7,7 @@ use lib.ListN.{length, drop}
 use Rattle.vcd_words.specs.Words.{words}
 use Rattle.vcd_simulation.specs.Simulation.{Went, wordsDone}
 use Rattle.vcd_simulation.specs.Feed.{codesBy}
-use Rattle.vcd.specs.InnerJudged.{bodyAfter}
+use Rattle.vcd.specs.Judging.{bodyAfter}
 use Rattle.vcd.proofs.JudgeLaws.{rest-none, over-none}
 use Rattle.vcd.proofs.judging.simulate.Statement.{statement}
 use Rattle.vcd.proofs.judging.simulate.Tie as tie

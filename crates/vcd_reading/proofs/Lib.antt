@@ -1,0 +1,4 @@
+pub mod CarryLaws
+pub mod ReadLaws
+pub mod HeadLaws
+pub mod CloseLaws
