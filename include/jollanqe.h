@@ -442,8 +442,9 @@ typedef struct jollanqe_buffers {
 /* The word of a refusal's number; "" for a number that is none. */
 static inline const char *jollanqe_refusal_word(unsigned number) {
     static const char *const words[] = {
-        "taken",          "empty panel",      "oversized panel", "swing",     "frame period",    "buffer length",
-        "foreign record", "foreign contents", "broken capture",  "bad event", "too many pixels",
+        "taken",           "empty panel",    "oversized panel",  "swing",          "frame period",
+        "buffer length",   "foreign record", "foreign contents", "broken capture", "bad event",
+        "too many pixels", "malformed dump", "signals",
     };
     return number < sizeof words / sizeof *words ? words[number] : "";
 }

@@ -51,6 +51,8 @@ WORDS = (
     "broken capture",
     "bad event",
     "too many pixels",
+    "malformed dump",
+    "signals",
 )
 
 

@@ -582,7 +582,8 @@ static void any_events(uint32_t count) {
 static void words(void) {
     must(strcmp(jollanqe_refusal_word(5), "buffer length") == 0, "5");
     must(strcmp(jollanqe_refusal_word(10), "too many pixels") == 0, "10");
-    must(*jollanqe_refusal_word(11) == 0 && *jollanqe_refusal_word(~0u) == 0, "no such number");
+    must(strcmp(jollanqe_refusal_word(12), "signals") == 0, "12");
+    must(*jollanqe_refusal_word(13) == 0 && *jollanqe_refusal_word(~0u) == 0, "no such number");
     shown("each refusal has its word");
 }
 

@@ -19,11 +19,12 @@ use Rattle.vcd_values.specs.declared.numbers.Time.the-variants as time
 use Rattle.vcd_values.specs.Levels.{level, unknown, noLevel}
 use Rattle.vcd_values.proofs.ReadBack.{time-fits}
 use Rattle.vcd_declarations.specs.Declarations.{isEnd}
-use Rattle.vcd_simulation.specs.declared.bus.Bus.{Bus}
+use Rattle.vcd_bus.specs.declared.Bus.{Bus}
 use Rattle.vcd_simulation.specs.declared.body.Wanted.{Wanted}
 use Rattle.vcd_simulation.specs.declared.body.Wanted.the-variants as want
 use Rattle.vcd_simulation.specs.declared.body.Body.{Body}
-use Rattle.vcd_simulation.specs.Bus.{takes, shifted, byteKind, byteEvents, resetValue, resetEvents, afterCode, codeMakes}
+use Rattle.vcd_bus.specs.Signals.{takes, shifted, byteKind, byteEvents, resetValue, resetEvents}
+use Rattle.vcd_simulation.specs.Coded.{afterCode, codeMakes}
 use Rattle.vcd_simulation.specs.Simulation.{Codes, Went, goes, breaks, changes, isCode, codeWord, nextOf, apartLevel, apart, valueWord, timed, keyWord, commandWord, wordBy, wordDone, wordsDone}
 use Rattle.vcd_simulation.proofs.Making.{two-make}
 use Rattle.vcd.proofs.Calls.{Fits, AllFit, fit-join}

@@ -14,7 +14,8 @@ use Rattle.vcd_words.specs.Words.{printable}
 use Rattle.vcd_values.specs.Levels.{level}
 use Rattle.vcd_simulation.specs.declared.body.Wanted.the-variants as want
 use Rattle.vcd_simulation.specs.declared.body.Body.{Body}
-use Rattle.vcd_simulation.specs.Bus.{counted, byteKind, afterCode, codeMakes}
+use Rattle.vcd_bus.specs.Signals.{counted, byteKind}
+use Rattle.vcd_simulation.specs.Coded.{afterCode, codeMakes}
 use Rattle.vcd_simulation.specs.Simulation.{Codes, Went, changes, isCode, valueWord, commandWord, wordDone, wordsDone}
 use Rattle.vcd.specs.Writer.{event, bitWords, bitsOf}
 

@@ -11,7 +11,8 @@ use Rattle.vcd_values.proofs.NumberLaws.{limit}
 use Rattle.vcd_values.proofs.ReadBack.{time-digits}
 use Rattle.vcd_simulation.specs.declared.body.Wanted.the-variants as want
 use Rattle.vcd_simulation.specs.declared.body.Body.{Body}
-use Rattle.vcd_simulation.specs.Bus.{byteKind, afterCode, codeMakes}
+use Rattle.vcd_bus.specs.Signals.{byteKind}
+use Rattle.vcd_simulation.specs.Coded.{afterCode, codeMakes}
 use Rattle.vcd_simulation.specs.Simulation.{Codes, Went, begun, changes, isCode, valueWord, commandWord, wordDone, wordsDone}
 use Rattle.vcd.specs.Writer.{event, timeWord, levelWord, bitsOf, resetWords, eventWords, simulation, Follows}
 use Rattle.vcd.proofs.WrittenBits.{codes, state, join, done-join, byte-done}

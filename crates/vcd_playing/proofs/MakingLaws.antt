@@ -34,7 +34,7 @@ use Rattle.vcd.proofs.Calls.{calls-join}
 use Rattle.vcd.proofs.JudgeLaws.{simulated-is}
 use Rattle.vcd_playing.specs.declared.words.Turn.{Turn}
 use Rattle.vcd_playing.specs.Words.{Plays}
-use Rattle.vcd_playing.specs.Making.{Turned, configRefused, configMade, finished, finePlayed}
+use Rattle.vcd_playing.specs.Making.{Turned, configRefused, configMade, finished, finePlayed, numberBy}
 
 -- what a contract says of a making: the world after it, and its number
 abbrev Made : (Buffers → World) → (Buffers → ℕ) → Buffers → World → Refusal → Type 0
@@ -100,19 +100,14 @@ turned-made : (config dump : List ℕ) (b : Buffers) (x : Refusal) (r : Answer) 
 unfolding dumpPlayed
 turned-made config dump b x r t n e = (rw (e, n, t .chip-is), rw (t .refused-is) (sym e))
 
-abbrev judged-number : Judged → ℕ → ℕ
-judged-number judge.Malformed n = 11
-judged-number judge.Unsignalled n = 12
-judged-number judge.Fine n = n
-
 dump-number : (config dump : List ℕ) (b : Buffers)
-    → dumpRefused config dump b ≡ pick (eqb (length config) 312) (judged-number (judged dump) (configRefused config b)) 8
+    → dumpRefused config dump b ≡ pick (eqb (length config) 312) (numberBy (judged dump) (configRefused config b)) 8
 unfolding dumpRefused judged configRefused
 dump-number config dump b = by-judged (malformed dump) (unsignalled dump)
   where
     by-judged : (m u : Bool)
         → pick (eqb (length config) 312) (pick m 11 (pick u 12 (pick (badConfig config 0) 9 (makingRefused (configIn config) b)))) 8
-        ≡ pick (eqb (length config) 312) (judged-number (pick m judge.Malformed (pick u judge.Unsignalled judge.Fine))
+        ≡ pick (eqb (length config) 312) (numberBy (pick m judge.Malformed (pick u judge.Unsignalled judge.Fine))
         (pick (badConfig config 0) 9 (makingRefused (configIn config) b))) 8
     by-judged true u = refl
     by-judged false true = refl
@@ -124,7 +119,7 @@ module _ (config dump : List ℕ) (b : Buffers) where
   eight r t n = turned-made config dump b refusal.BrokenCapture r t refl (dump-number config dump b ∙ rw (ne-eqb (length config) 312 n))
 
   module _ (whole : length config ≡ 312) (j : Judged) (is : j ≡ judged dump) where
-    number-is : dumpRefused config dump b ≡ judged-number j (configRefused config b)
+    pub number-is : dumpRefused config dump b ≡ numberBy j (configRefused config b)
     number-is = dump-number config dump b ∙ rw (eq-eqb (length config) 312 whole, ← is)
 
     pub eleven : (r : Answer) → Turned refusal.MalformedDump r → j ≡ judge.Malformed
@@ -141,3 +136,16 @@ module _ (config dump : List ℕ) (b : Buffers) where
     fine w r e m =
         let number : dumpRefused config dump b ≡ configRefused config b = number-is ∙ rw e in
         (m .0 ∙ rw number, m .1 ∙ sym number)
+
+-- ---- a dump that is not turned back leaves what its calls leave, from the configuration's making on
+none-by : (j : Judged) (n : ℕ) → numberBy j n ≡ 0 → n ≡ 0
+none-by judge.Malformed n e = absurd (omega (arith, e))
+none-by judge.Unsignalled n e = absurd (omega (arith, e))
+none-by judge.Fine n e = e
+
+pub whole-played : (config dump : List ℕ) (b : Buffers) → length config ≡ 312 → dumpRefused config dump b ≡ 0
+    → calls (dumpEvents dump) (configMade config b) ≡ dumpPlayed config dump b
+unfolding dumpPlayed
+whole-played config dump b l e =
+    let fine = none-by (judged dump) (configRefused config b) (sym (number-is config dump b l (judged dump) refl) ∙ e) in
+    ap (calls (dumpEvents dump)) (taken config b (eq-eqb (configRefused config b) 0 fine)) ∙ rw (eq-eqb (dumpRefused config dump b) 0 e)

@@ -12,6 +12,8 @@ use Rattle.controller.specs.Calls.{made, zeros}
 use Rattle.controller.specs.declared.Answer.{Answer}
 use Rattle.event.specs.Events.{eventDone}
 use Rattle.vcd_simulation.specs.declared.body.Body.{Body}
+use Rattle.vcd.specs.declared.judging.Judged.{Judged}
+use Rattle.vcd.specs.declared.judging.Judged.the-variants as judge
 use Rattle.vcd.specs.Dump.{configIn, dumpEvents}
 use Rattle.vcd.specs.Played.{calls}
 
@@ -35,3 +37,9 @@ finished body w = eventDone (record { time = body .now; kind = 5; value = 0 }) w
 unfoldable pub finePlayed : List ℕ → List ℕ → Buffers → World
 finePlayed config dump b =
     pick (eqb (configRefused config b) 0) (calls (dumpEvents dump) (made (configIn config) b)) (world zeros b)
+
+-- what turns a dump back: 11 and 12 come before what turns its configuration back
+abbrev pub numberBy : Judged → ℕ → ℕ
+numberBy judge.Malformed n = 11
+numberBy judge.Unsignalled n = 12
+numberBy judge.Fine n = n

@@ -11,8 +11,9 @@ use Rattle.base.specs.Pick.{pick}
 use Rattle.base.proofs.Cases.{both}
 use Rattle.event.specs.declared.Event.{Event}
 use Rattle.vcd_words.specs.Words.{alike}
-use Rattle.vcd_simulation.specs.declared.bus.Bus.{Bus}
-use Rattle.vcd_simulation.specs.Bus.{selected, dataOr, clocked, sent, reset, takes, shifted, byteKind, byteEvents, resetValue, resetEvents, afterCode, codeMakes}
+use Rattle.vcd_bus.specs.declared.Bus.{Bus}
+use Rattle.vcd_bus.specs.Signals.{selected, dataOr, clocked, sent, reset, takes, shifted, byteKind, byteEvents, resetValue, resetEvents}
+use Rattle.vcd_simulation.specs.Coded.{afterCode, codeMakes}
 use Rattle.vcd_simulation.specs.Written.{eventBytes, written}
 use Rattle.vcd_simulation.proofs.Holding.{one-written, written-join}
 

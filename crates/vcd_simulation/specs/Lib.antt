@@ -1,4 +1,4 @@
-pub mod Bus
+pub mod Coded
 pub mod Written
 pub mod Simulation
 pub mod InnerSteps

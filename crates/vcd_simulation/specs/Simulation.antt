@@ -13,11 +13,12 @@ use Rattle.vcd_values.specs.declared.numbers.Time.the-variants.{At}
 use Rattle.vcd_values.specs.declared.numbers.Time.the-variants as time
 use Rattle.vcd_values.specs.Levels.{level, vectorLevel, unknown, noLevel}
 use Rattle.vcd_declarations.specs.Declarations.{isEnd}
-use Rattle.vcd_simulation.specs.declared.bus.Bus.{Bus}
+use Rattle.vcd_bus.specs.declared.Bus.{Bus}
 use Rattle.vcd_simulation.specs.declared.body.Wanted.{Wanted}
 use Rattle.vcd_simulation.specs.declared.body.Wanted.the-variants as want
 use Rattle.vcd_simulation.specs.declared.body.Body.{Body}
-use Rattle.vcd_simulation.specs.Bus.{quiet, afterCode, codeMakes}
+use Rattle.vcd_bus.specs.Signals.{quiet}
+use Rattle.vcd_simulation.specs.Coded.{afterCode, codeMakes}
 
 -- the codes of the five signals, and every code that one of them was declared with
 pub record Codes : Type 0 where

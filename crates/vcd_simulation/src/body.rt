@@ -1,8 +1,8 @@
 // What is known of a dump after some words of its simulation.
 ghost use mathlib.Core.Path.{_≡_};
 ghost use Rattle.vcd_simulation.specs.Simulation as rule;
-use crate::bus::Bus;
-use crate::bus::quiet;
+use vcd_bus::Bus;
+use vcd_bus::quiet;
 
 // What may come next.
 pub enum Wanted {

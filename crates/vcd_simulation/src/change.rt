@@ -5,22 +5,23 @@ ghost use Prim.Native.Nat.{_+_, _≤_};
 ghost use lib.ListN.{length};
 ghost use Rattle.base.specs.Pick.{pick};
 ghost use Rattle.vcd_declarations.specs.Codes.{fiveIn, AllWithin};
-ghost use Rattle.vcd_simulation.specs.Bus as rule;
+ghost use Rattle.vcd_bus.specs.Signals as rule;
+ghost use Rattle.vcd_simulation.specs.Coded as coded;
 ghost use Rattle.vcd_simulation.specs.Written.{written, Holds};
-use crate::bus::Bus;
-use crate::bus::clocked;
-use crate::bus::on_cs;
-use crate::bus::on_dc;
-use crate::bus::on_mosi;
-use crate::bus::reset;
-use crate::bus::shifted;
-use crate::bus::takes;
 use crate::codes::is_code;
 use crate::emit::emit;
 use capture::COMMAND;
 use capture::DATA;
 use capture::RESET;
 use event::Event;
+use vcd_bus::Bus;
+use vcd_bus::clocked;
+use vcd_bus::on_cs;
+use vcd_bus::on_dc;
+use vcd_bus::on_mosi;
+use vcd_bus::reset;
+use vcd_bus::shifted;
+use vcd_bus::takes;
 use vcd_declarations::Codes;
 
 // The bus after a change, and how many bytes of events are held.
@@ -120,8 +121,8 @@ pub(crate) fn change(
 ) -> Changed
     requires { ⌜ AllWithin codes (length (now head)) ⌝ }
     requires { ⌜ held + 20 ≤ length (now out) ⌝ }
-    ensures { λ r. ⌜ (r .bus ≡ rule.afterCode (fiveIn (now (head .entry)) codes) (now (code .entry)) 5 v b)
-        × Holds (written (rule.codeMakes (fiveIn (now (head .entry)) codes) (now (code .entry)) 5 time v b)) held (r .held)
+    ensures { λ r. ⌜ (r .bus ≡ coded.afterCode (fiveIn (now (head .entry)) codes) (now (code .entry)) 5 v b)
+        × Holds (written (coded.codeMakes (fiveIn (now (head .entry)) codes) (now (code .entry)) 5 time v b)) held (r .held)
         (now (out .entry)) (now (out .exit)) ⌝ }
 {
     let b1 = on_cs(b, is_code(head, codes.cs, code), v);

@@ -1,7 +1,6 @@
 // The simulation of a Value Change Dump (IEEE 1364): its times and value changes, and the events on
 // the bus that they make.
 mod body;
-mod bus;
 mod change;
 mod codes;
 mod emit;
@@ -12,7 +11,5 @@ pub use body::Body;
 pub use body::Wanted;
 pub use body::begun;
 pub use body::is_over;
-pub use bus::Bus;
-pub use bus::quiet;
 pub use feeding::Fed;
 pub use feeding::feed;

@@ -1,15 +1,11 @@
 -- 2026-01: the five signals of the bus, and the events that their changes make.
 use mathlib.Core.Bool.{Bool, _&&_}
-use mathlib.Core.List.{List, [], _∷_, _++_}
+use mathlib.Core.List.{List, [], _∷_}
 use Prim.Native.Nat.{ℕ, _+_, _*_, _%_}
 use lib.Dec.{eqb}
-use lib.ListN.{getD}
 use Rattle.base.specs.Pick.{pick}
-use Rattle.base.specs.Turns.{turns}
-use Rattle.base.specs.InTurn.{inTurn}
 use Rattle.event.specs.declared.Event.{Event}
-use Rattle.vcd_words.specs.Words.{alike}
-use Rattle.vcd_simulation.specs.declared.bus.Bus.{Bus}
+use Rattle.vcd_bus.specs.declared.Bus.{Bus}
 
 -- a signal counts as 1 before its first value
 abbrev pub quiet : Bus
@@ -88,11 +84,3 @@ resetEvents t v b = pick (eqb (b .rst) v) [] (record { time = t; kind = 4; value
 -- what a signal's level makes at time t
 abbrev pub makes : ℕ → ℕ → ℕ → Bus → List Event
 makes signal t v b = pick (eqb signal 2) (byteEvents t v b) (pick (eqb signal 4) (resetEvents t v b) [])
-
--- the first n of the signals, those whose code this is, in the order named
-unfoldable pub afterCode : List (List ℕ) → List ℕ → ℕ → ℕ → Bus → Bus
-afterCode codes code n v b = turns n (λ i c. pick (alike (getD codes i []) code) (after i v c) c) b
-
-unfoldable pub codeMakes : List (List ℕ) → List ℕ → ℕ → ℕ → ℕ → Bus → List Event
-codeMakes codes code n t v b =
-    inTurn n (λ i. pick (alike (getD codes i []) code) (makes i t v (afterCode codes code i v b)) [])

@@ -1,7 +1,7 @@
 // The five signals of the bus, and the byte that is under way on it.
 ghost use mathlib.Core.Path.{_≡_};
 ghost use Rattle.base.specs.Pick.{pick};
-ghost use Rattle.vcd_simulation.specs.Bus as rule;
+ghost use Rattle.vcd_bus.specs.Signals as rule;
 
 pub struct Bus {
     pub cs: u8,
@@ -39,7 +39,7 @@ fn rises(before: u8, after: u8) -> bool
 }
 
 // `cs` takes a level, where the change is one of it.
-pub(crate) fn on_cs(b: Bus, hit: bool, v: u8) -> Bus
+pub fn on_cs(b: Bus, hit: bool, v: u8) -> Bus
     ensures { λ r. ⌜ r ≡ pick hit (rule.selected v b) b ⌝ }
 {
     if hit {
@@ -63,7 +63,7 @@ fn selected(b: Bus, v: u8) -> Bus
     }
 }
 
-pub(crate) fn on_dc(b: Bus, hit: bool, v: u8) -> Bus
+pub fn on_dc(b: Bus, hit: bool, v: u8) -> Bus
     ensures { λ r. ⌜ r ≡ pick hit (rule.dataOr v b) b ⌝ }
 {
     if hit {
@@ -86,7 +86,7 @@ fn with_dc(b: Bus, v: u8) -> Bus
     }
 }
 
-pub(crate) fn on_mosi(b: Bus, hit: bool, v: u8) -> Bus
+pub fn on_mosi(b: Bus, hit: bool, v: u8) -> Bus
     ensures { λ r. ⌜ r ≡ pick hit (rule.sent v b) b ⌝ }
 {
     if hit {
@@ -110,7 +110,7 @@ fn with_mosi(b: Bus, v: u8) -> Bus
 }
 
 // Whether a level of `clk` takes a bit.
-pub(crate) fn takes(b: Bus, v: u8) -> bool
+pub fn takes(b: Bus, v: u8) -> bool
     ensures { λ r. ⌜ r ≡ rule.takes v b ⌝ }
 {
     if rises(b.clk, v) {
@@ -120,7 +120,7 @@ pub(crate) fn takes(b: Bus, v: u8) -> bool
 }
 
 // The last eight bits with one more.
-pub(crate) fn shifted(b: Bus) -> u8
+pub fn shifted(b: Bus) -> u8
     ensures { λ r. ⌜ r ≡ rule.shifted b ⌝ }
 {
     ((2 * (b.byte as u16) + b.mosi as u16) % 256) as u8
@@ -133,7 +133,7 @@ fn one_more(bits: u8) -> u8
 }
 
 // `clk` takes a level.
-pub(crate) fn clocked(b: Bus, v: u8) -> Bus
+pub fn clocked(b: Bus, v: u8) -> Bus
     ensures { λ r. ⌜ r ≡ rule.clocked v b ⌝ }
 {
     if takes(b, v) {
@@ -159,7 +159,7 @@ pub(crate) fn clocked(b: Bus, v: u8) -> Bus
 }
 
 // `rst` takes a level.
-pub(crate) fn reset(b: Bus, v: u8) -> Bus
+pub fn reset(b: Bus, v: u8) -> Bus
     ensures { λ r. ⌜ r ≡ rule.reset v b ⌝ }
 {
     Bus {
