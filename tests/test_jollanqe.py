@@ -107,6 +107,114 @@ class Pictures(Folder):
         self.assertEqual(png((self.dir / "made" / "1.png").read_bytes()), (8, 1, bytes([128] * 4 + [0] * 4)))
 
 
+class Dumps(Folder):
+    """The words `vcd` and `config`: what is read, and what a person can get wrong."""
+
+    head = b"$timescale 1 ns $end\n" + b"".join(b"$var wire 1 %c %s $end\n" % c for c in zip(b"sdkmr", (b"cs", b"dc", b"clk", b"mosi", b"rst")))
+
+    def setUp(self):
+        super().setUp()
+        (self.dir / "panel.config").write_bytes(capture()[-320:-8])
+
+    def dump(self, body, head=head, name="night.vcd"):
+        (self.dir / name).write_bytes(head + body)
+        return name
+
+    def byte(self, time, dc, value):
+        bits = b"".join(b"%dm 1k 0k " % (value >> (7 - i) & 1) for i in range(8))
+        return b"#%d %dd " % (time, dc) + bits
+
+    def worked(self):
+        """The capture's own bytes, as an analyser has them."""
+        body = b"0s 0k "
+        file = capture()
+        for at in range(0, len(file) - 320, 10):
+            time, kind, value = int.from_bytes(file[at : at + 8], "little"), file[at + 8], file[at + 9]
+            body += self.byte(time, kind - 1, value) if kind < 3 else b"#%d " % time
+        return self.dump(body)
+
+    def test_the_same_as_a_capture(self):
+        name = self.worked()
+        for form in ("lines", "pgm", "png"):
+            with self.subTest(form=form):
+                wanted = self.run_it(form, "good.capture").stdout
+                self.says(self.run_it("vcd", "panel.config", name, form), wanted, b"")
+                self.says(self.run_it("vcd", "panel.config", "-", form, data=(self.dir / name).read_bytes()), wanted, b"")
+                self.says(self.run_it(data=b"vcd panel.config %s %s > out\n" % (name.encode(), form.encode())), b"", b"")
+                self.assertEqual((self.dir / "out").read_bytes(), wanted)
+        self.says(self.run_it("vcd", "panel.config", name), self.run_it("lines", "good.capture").stdout, b"")
+
+    def test_config(self):
+        self.says(self.run_it("config", "good.capture"), (self.dir / "panel.config").read_bytes(), b"")
+        self.says(self.run_it("config", "panel.config"), b"refused 8\n", b"panel.config: refused 8: broken capture: 312 bytes, at least 320\n")
+        self.says(self.run_it("config", "missing"), b"", b"missing: ")
+
+    def test_configurations(self):
+        name = self.worked()
+        config = (self.dir / "panel.config").read_bytes()
+        for bytes_, number, words in (
+            (config[:-1], 8, b"broken capture: 311 bytes, a configuration has 312"),
+            (config + b"\0", 8, b"broken capture: 313 bytes, a configuration has 312"),
+            (b"\2" + config[1:], 9, b"bad event: variant 2, at most 1"),
+            (config[:1] + b"\x08" + config[2:], 9, b"bad event: flags 8, at most 7"),
+            (config[:2] + b"\0\0" + config[4:], 1, b"empty panel"),
+        ):
+            with self.subTest(words=words):
+                (self.dir / "other.config").write_bytes(bytes_)
+                self.says(self.run_it("vcd", "other.config", name), b"refused %d\n" % number, b"other.config: refused %d: %s" % (number, words))
+        # 8 comes before 11, and 11 before 9
+        bad = self.dump(b"0s 0k #5 #4 ", name="bad.vcd")
+        (self.dir / "other.config").write_bytes(b"\2" + config[1:])
+        self.says(self.run_it("vcd", "other.config", bad), b"refused 11\n", b"bad.vcd: refused 11: ")
+        (self.dir / "other.config").write_bytes(config[:-1])
+        self.says(self.run_it("vcd", "other.config", bad), b"refused 8\n", b"other.config: refused 8: ")
+
+    def test_malformed(self):
+        for body, words in (
+            (b"#5\n#4\n", b"line 8: #4"),
+            (b"#0\nxs\n", b"line 8: xs"),
+            (b"#0\n1s\n$dumpvars\n1s\n", b"ends within a section, a comment or a change"),
+            (b"#18446744073709551616\n", b"line 7: #18446744073709551616"),
+            (b"\n\n\n" + b"#1 " * 40_000 + b"\n1\x07q\n", b"line 11: 1?q"),
+        ):
+            with self.subTest(words=words):
+                self.says(self.run_it("vcd", "panel.config", self.dump(body)), b"refused 11\n", b"night.vcd: refused 11: malformed dump: " + words)
+        for head, words in ((b"", b"no timescale"), (b"$timescale 1 ps $end\n", b"in the declarations"), (b"$timescale 1 ns\n", b"ends within a declaration")):
+            with self.subTest(words=words):
+                self.says(self.run_it("vcd", "panel.config", self.dump(b"", head)), b"refused 11\n", b"night.vcd: refused 11: malformed dump: " + words)
+
+    def test_signals(self):
+        lines = self.head.splitlines(keepends=True)
+        for left, name in zip(range(1, 6), (b"cs", b"dc", b"clk", b"mosi", b"rst")):
+            with self.subTest(name=name):
+                head = b"".join(lines[:left] + lines[left + 1 :])
+                self.says(self.run_it("vcd", "panel.config", self.dump(b"#1 ", head)), b"refused 12\n", b"night.vcd: refused 12: signals: %s missing\n" % name)
+        for more in (b"$var wire 1 z cs $end ", b"$var wire 1 s cs $end "):
+            self.says(self.run_it("vcd", "panel.config", self.dump(more + b"#1 ")), b"refused 12\n", b"night.vcd: refused 12: signals: one of ")
+
+    def test_limits(self):
+        self.says(self.run_it("vcd", "panel.config", self.dump(b"", b"$comment " + b"a b " * 300_000 + b"$end ")), b"", b"night.vcd: the declarations and a word")
+        self.says(self.run_it("vcd", "panel.config", self.dump(b"#0 $comment " + b"a" * 70_000 + b" $end ")), b"", b"night.vcd: a word has more than 65,537 bytes")
+
+    def test_words(self):
+        name = self.worked()
+        for words in (["vcd"], ["vcd", "panel.config"], ["vcd", "panel.config", name, "gif"], ["vcd", "panel.config", name, "png", "x"]):
+            with self.subTest(words=words):
+                self.says(self.run_it(*words), b"", b"jollanqe: vcd wants ")
+        self.says(self.run_it("vcd", "-", "-"), b"", b"jollanqe: standard input can be one of the two files, not both\n")
+        self.says(self.run_it("vcd", "panel.config", "missing"), b"", b"missing: ")
+        self.says(self.run_it("vcd", "missing", name), b"", b"missing: ")
+        before = (self.dir / name).read_bytes()
+        for out in (name, "panel.config"):
+            result = self.run_it(data=b"vcd panel.config %s > %s\n" % (name.encode(), out.encode()))
+            self.assertIn(b"would be written over", result.stderr)
+        self.assertEqual((self.dir / name).read_bytes(), before)
+        # no output is made for a dump that is refused
+        self.dump(b"#5 #4 ", name="bad.vcd")
+        self.says(self.run_it(data=b"vcd panel.config bad.vcd png > out.png\n"), b"refused 11\n", b"bad.vcd: ")
+        self.assertFalse((self.dir / "out.png").exists())
+
+
 class Wrong(Folder):
     words = (["lines", "FILE"], ["pgm", "FILE"], ["png", "FILE"], ["cuts", "FILE"], ["pictures", "FILE", "made"], ["compare", "FILE", "good.capture"])
 
@@ -177,7 +285,7 @@ class Wrong(Folder):
         self.assertEqual(result.stdout, b"")
         said = result.stderr.splitlines()
         self.assertEqual(said[0], b"jollanqe: help stands alone, and writes to standard output")
-        self.assertEqual(said[1], b"jollanqe: a capture would be written over: name another file")
+        self.assertEqual(said[1], b"jollanqe: an input would be written over: name another file")
         self.assertEqual(said[2], b"jollanqe: standard input is the batch itself: name a file")
         self.assertTrue(said[3].startswith(b"missing: "))
         self.assertEqual(said[4], b"a line is longer than 8,192 bytes")

@@ -1,7 +1,4 @@
 // Two captures, A and B, played one after the other and compared.
-use crate::files;
-use crate::files::Got;
-use crate::outputs;
 use crate::refusals;
 use crate::replay::room;
 use capture::Capture;
@@ -9,6 +6,7 @@ use capture::MOST_EVENTS;
 use config::Uc8253Config;
 use differences::Finding;
 use differences::Place;
+use files::Got;
 use input::front;
 use log::Log;
 
@@ -83,7 +81,7 @@ fn first_rows(rows: &[u64], n: usize) -> &[u64] {
 }
 
 // The bytes of the configuration, which begin there.
-fn config_at(file: &[u8], end: usize) -> &[u8] {
+pub(crate) fn config_at(file: &[u8], end: usize) -> &[u8] {
     if end <= file.len() {
         if CONFIG <= file.len() - end {
             return &file[end..end + CONFIG];
@@ -216,11 +214,11 @@ fn write(
         front(picture_a, pixels_of(file_a)),
         front(picture_b, pixels_of(file_b)),
     );
-    let fd = outputs::open(out);
+    let fd = files::open(out);
     if fd < 0 {
         return;
     }
-    outputs::close(out, fd, io::write_all(fd, front(&text, n)));
+    files::close(out, fd, io::write_all(fd, front(&text, n)));
 }
 
 // The second capture played, beside a first one whose picture and rows, so many numbers, are there.

@@ -10,7 +10,7 @@ fn line(text: &[u8]) {
 pub(crate) fn say() {
     if !io::write_all(
         STDOUT_FILENO,
-        b"jollanqe: what an e-paper controller and its glass make of a capture\n\n",
+        b"jollanqe: what an e-paper controller and its glass make of a capture or a dump\n\n",
     ) {
         os::fail(b"standard output");
         return;
@@ -26,6 +26,15 @@ pub(crate) fn say() {
         b"  jollanqe cuts FILE            the refreshes that reset cut: when, after how many whole\n",
     );
     line(b"                                frames, of how many\n");
+    line(b"  jollanqe config FILE          the 312 bytes of the configuration, for vcd\n");
+    line(b"  jollanqe vcd CONFIG FILE [lines | pgm | png]\n");
+    line(
+        b"                                the panel of a configuration after a dump of an analyser\n",
+    );
+    line(
+        b"                                (Value Change Dump, timescale 1 ns): its lines, or its last\n",
+    );
+    line(b"                                picture\n");
     line(b"  jollanqe compare FILE FILE    the first event, row or pixel in which two captures\n");
     line(b"                                differ, and how many pixels do\n");
     line(
@@ -36,9 +45,7 @@ pub(crate) fn say() {
     );
     line(b"\n");
     line(b"A FILE that is - is standard input, but not in a line of the batch. Panels go up to\n");
-    line(
-        b"800 by 600. A capture that is turned back gives 'refused N' on standard output and the\n",
-    );
+    line(b"800 by 600. What is turned back gives 'refused N' on standard output and the\n");
     line(b"words on standard error; no file is written for it. docs/FORMAT.md has the format.\n");
 }
 
@@ -56,6 +63,13 @@ pub(crate) fn wants_file(word: &[u8]) {
     io::write_all(STDERR_FILENO, b" wants one file, as in: jollanqe ");
     io::write_all(STDERR_FILENO, word);
     io::write_all(STDERR_FILENO, b" night.capture\n");
+}
+
+// The same of a dump.
+pub(crate) fn wants_dump() {
+    wanted(
+        b"vcd wants a configuration, a dump and at most one of lines, pgm and png, as in: jollanqe vcd panel.config night.vcd png",
+    );
 }
 
 // A word that is none.

@@ -7,6 +7,7 @@ use crate::task::Task;
 use crate::words::count;
 use crate::words::same;
 use crate::words::word;
+use files::is_input;
 use showing::Form;
 
 pub(crate) enum Word {
@@ -15,7 +16,15 @@ pub(crate) enum Word {
     Task(Task),
     Pictures,
     Compare,
+    Dump,
     Unknown,
+}
+
+// What is written of a dump.
+enum Chosen {
+    Form(Form),
+    // There is no such word, or too many or too few.
+    Wrong,
 }
 
 fn sort(w: &[u8]) -> Word {
@@ -34,11 +43,17 @@ fn sort(w: &[u8]) -> Word {
     if same(w, b"cuts") {
         return Word::Task(Task::Watch(Watch::Cuts));
     }
+    if same(w, b"config") {
+        return Word::Task(Task::Config);
+    }
     if same(w, b"pictures") {
         return Word::Pictures;
     }
     if same(w, b"compare") {
         return Word::Compare;
+    }
+    if same(w, b"vcd") {
+        return Word::Dump;
     }
     Word::Unknown
 }
@@ -72,7 +87,7 @@ fn takes_batch(name: &[u8], in_batch: bool) -> bool {
     if !in_batch {
         return false;
     }
-    if same(name, b"-") {
+    if is_input(name) {
         help::wanted(b"standard input is the batch itself: name a file");
         return true;
     }
@@ -82,7 +97,7 @@ fn takes_batch(name: &[u8], in_batch: bool) -> bool {
 // Whether a job would write over a file that it reads.
 fn writes_over(name: &[u8], out: &[u8]) -> bool {
     if same(name, out) {
-        help::wanted(b"a capture would be written over: name another file");
+        help::wanted(b"an input would be written over: name another file");
         return true;
     }
     false
@@ -172,14 +187,31 @@ fn into_folder(
 
 // Whether both files are standard input, which can be read once.
 fn both_input(a: &[u8], b: &[u8]) -> bool {
-    if !same(a, b"-") {
+    if !is_input(a) {
         return false;
     }
-    if same(b, b"-") {
+    if is_input(b) {
         help::wanted(b"standard input can be one of the two files, not both");
         return true;
     }
     false
+}
+
+// Whether two files and an output cannot be those of one job.
+fn clash(a: &[u8], b: &[u8], out: &[u8], in_batch: bool) -> bool {
+    if takes_batch(a, in_batch) {
+        return true;
+    }
+    if takes_batch(b, in_batch) {
+        return true;
+    }
+    if both_input(a, b) {
+        return true;
+    }
+    if writes_over(a, out) {
+        return true;
+    }
+    writes_over(b, out)
 }
 
 // Two files.
@@ -202,21 +234,9 @@ fn two_files(
         return;
     }
     let a = word(line, 1);
-    if takes_batch(a, in_batch) {
-        return;
-    }
     let b = word(line, 2);
-    if takes_batch(b, in_batch) {
-        return;
-    }
-    if both_input(a, b) {
-        return;
-    }
     let out = target(line, in_batch);
-    if writes_over(a, out) {
-        return;
-    }
-    if writes_over(b, out) {
+    if clash(a, b, out, in_batch) {
         return;
     }
     comparing::run(
@@ -234,6 +254,68 @@ fn two_files(
         rows,
         other_rows,
     );
+}
+
+// What `vcd` writes, by the word behind its two files: the lines where there is none.
+fn choose(line: &[u8], n: usize) -> Chosen {
+    if n == 3 {
+        return Chosen::Form(Form::Lines);
+    }
+    if n != 4 {
+        return Chosen::Wrong;
+    }
+    let w = word(line, 3);
+    if same(w, b"lines") {
+        return Chosen::Form(Form::Lines);
+    }
+    if same(w, b"pgm") {
+        return Chosen::Form(Form::Graymap);
+    }
+    if same(w, b"png") {
+        return Chosen::Form(Form::Png);
+    }
+    Chosen::Wrong
+}
+
+// A configuration and a dump.
+fn dump(
+    line: &[u8],
+    in_batch: bool,
+    file: &mut [u8],
+    other: &mut [u8],
+    old: &mut [u8],
+    new: &mut [u8],
+    states: &mut [i64],
+    numbers: &mut [u8],
+    picture: &mut [u8],
+    rows: &mut [u64],
+) {
+    let c = choose(line, before_target(line, in_batch));
+    match c {
+        Chosen::Form(form) => {
+            let config = word(line, 1);
+            let name = word(line, 2);
+            let out = target(line, in_batch);
+            if clash(config, name, out, in_batch) {
+                return;
+            }
+            dumping::run(
+                config,
+                name,
+                form,
+                out,
+                file,
+                other,
+                old,
+                new,
+                states,
+                numbers,
+                picture,
+                rows,
+            );
+        }
+        Chosen::Wrong => help::wants_dump(),
+    }
 }
 
 // `help` stands alone.
@@ -302,6 +384,18 @@ pub(crate) fn run(
             other_picture,
             rows,
             other_rows,
+        ),
+        Word::Dump => dump(
+            line,
+            in_batch,
+            file,
+            other,
+            old,
+            new,
+            states,
+            numbers,
+            picture,
+            rows,
         ),
         Word::Unknown => help::no_word(word(line, 0)),
     }

@@ -1,10 +1,8 @@
 // One program with a word for each job: `jollanqe help` says all of them. With no word it reads jobs
 // from standard input, one a line.
 mod comparing;
-mod files;
 mod help;
 mod job;
-mod outputs;
 mod pictures;
 mod refusals;
 mod replay;
@@ -12,6 +10,7 @@ mod task;
 mod words;
 
 use files::Reading;
+use files::read_line;
 use input::front;
 use libc::STDERR_FILENO;
 use libc::STDIN_FILENO;
@@ -39,7 +38,7 @@ fn separate(line: &mut [u8]) {
 
 // The next line of standard input.
 fn next_line(line: &mut [u8]) -> Reading {
-    let got = files::read_line(STDIN_FILENO, line);
+    let got = read_line(STDIN_FILENO, line);
     separate(line);
     got
 }

@@ -1,12 +1,12 @@
-// A task on one capture: its lines, its last picture, all its pictures, or its cuts.
-use crate::files;
-use crate::files::Got;
-use crate::outputs;
+// A task on one capture: its lines, its last picture, all its pictures, its cuts, or its
+// configuration.
+use crate::comparing::config_at;
 use crate::pictures;
 use crate::refusals;
 use crate::replay;
 use crate::replay::Ended;
 use crate::replay::Watch;
+use files::Got;
 use input::front;
 use libc::STDOUT_FILENO;
 use showing::Form;
@@ -16,6 +16,8 @@ use showing::tested;
 pub(crate) enum Task {
     Show(Form),
     Watch(Watch),
+    // The 312 bytes, as they stand.
+    Config,
 }
 
 // Whether the output could be written, or what failed was said already.
@@ -25,6 +27,12 @@ fn is_written(ended: Ended) -> bool {
         Ended::Unwritten => false,
         Ended::Said => true,
     }
+}
+
+// The configuration of a capture that is not turned back.
+fn write_config(capture: &[u8], fd: i32) -> bool {
+    let c = capture::read(capture);
+    io::write_all(fd, config_at(capture, c.end))
 }
 
 // A capture that is not turned back, to a descriptor; the answer is whether that could be written.
@@ -54,6 +62,7 @@ fn write(
             picture,
             rows,
         )),
+        Task::Config => write_config(capture, fd),
     }
 }
 
@@ -75,7 +84,7 @@ fn perform(
             return;
         }
     }
-    let fd = outputs::open(out);
+    let fd = files::open(out);
     if fd < 0 {
         return;
     }
@@ -91,7 +100,7 @@ fn perform(
         picture,
         rows,
     );
-    outputs::close(out, fd, written);
+    files::close(out, fd, written);
 }
 
 // A capture of so many bytes in all, of which the first ones were read.

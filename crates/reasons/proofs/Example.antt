@@ -33,10 +33,12 @@ pub named : (wordsOf 1 ≡ ascii "refused 1: empty panel")
     × (wordsOf 8 ≡ ascii "refused 8: broken capture")
     × (wordsOf 9 ≡ ascii "refused 9: bad event")
     × (wordsOf 10 ≡ ascii "refused 10: too many pixels")
+    × (wordsOf 11 ≡ ascii "refused 11: malformed dump")
+    × (wordsOf 12 ≡ ascii "refused 12: signals")
 unfolding wordsOf nameOf digits
-named = (refl, refl, refl, refl, refl, refl, refl, refl, refl, refl)
+named = (refl, refl, refl, refl, refl, refl, refl, refl, refl, refl, refl, refl)
 
-pub nameless : (wordsOf 0 ≡ ascii "refused 0") × (wordsOf 11 ≡ ascii "refused 11") × (wordsOf 255 ≡ ascii "refused 255")
+pub nameless : (wordsOf 0 ≡ ascii "refused 0") × (wordsOf 13 ≡ ascii "refused 13") × (wordsOf 255 ≡ ascii "refused 255")
 unfolding wordsOf nameOf digits
 nameless = (refl, refl, refl)
 

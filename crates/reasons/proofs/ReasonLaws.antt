@@ -34,6 +34,11 @@ bad-number : (file : List ℕ) → refusalOf (badReason file (offsetOf file) (co
 unfolding badReason badConfig badEvent
 bad-number file = simp (refusal-picked, either, events-number)
 
+-- a configuration by itself: of 9 exactly if it is bad
+pub config-number : (config : List ℕ) → refusalOf (badReason config 0 0) ≡ pick (badConfig config 0) 9 0
+unfolding badReason badConfig
+config-number config = simp (refusal-picked, either)
+
 pub number-is : (file : List ℕ) → refusalOf (reasonOf file) ≡ pick (broken file) 8 (pick (badEvent file) 9 0)
 unfolding reasonOf broken
 number-is file = simp (refusal-picked, either, bad-number)

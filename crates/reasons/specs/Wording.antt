@@ -7,7 +7,7 @@ use Rattle.reasons.specs.declared.causes.Reason.{Reason}
 use Rattle.reasons.specs.declared.causes.Reason.the-variants as reason
 use Rattle.reasons.specs.Groups.{grouped}
 
--- the names of 1 to 10, by number, behind a colon; any other number has none
+-- the names of 1 to 12, by number, behind a colon; any other number has none
 abbrev pub names : List (List ℕ)
 names =
     []
@@ -21,6 +21,8 @@ names =
     ∷ ascii ": broken capture"
     ∷ ascii ": bad event"
     ∷ ascii ": too many pixels"
+    ∷ ascii ": malformed dump"
+    ∷ ascii ": signals"
     ∷ []
 
 unfoldable pub nameOf : ℕ → List ℕ
@@ -44,6 +46,10 @@ kindWords event kind = ascii ": event " ++ grouped event ++ ascii ": kind " ++ g
 
 abbrev pub valueWords : ℕ → ℕ → ℕ → List ℕ
 valueWords event kind value = kindWords event kind ++ ascii ", value " ++ grouped value
+
+-- a configuration by itself, as `vcd` takes one
+abbrev pub configLength : ℕ → List ℕ
+configLength bytes = ascii ": " ++ grouped bytes ++ ascii " bytes, a configuration has 312"
 
 -- why, behind the words of the refusal
 abbrev pub becauseOf : Reason → List ℕ

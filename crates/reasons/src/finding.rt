@@ -50,6 +50,13 @@ fn bad(file: &[u8], offset: u32, count: u32) -> Reason
     first_fault(file, count)
 }
 
+// The first test of 9 that a configuration by itself fails.
+pub fn config_reason(config: &[u8]) -> Reason
+    ensures { λ r. ⌜ r ≡ rule.badReason (now (config .entry)) 0 0 ⌝ }
+{
+    bad(config, 0, 0)
+}
+
 // The first test of 8 and of 9 that fails.
 pub fn reason(file: &[u8]) -> Reason
     ensures { λ r. ⌜ r ≡ rule.reasonOf (now (file .entry)) ⌝ }

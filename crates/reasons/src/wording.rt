@@ -25,6 +25,8 @@ fn name(text: &mut [u8], held: usize, number: u8) -> usize
         8 => put(text, held, b": broken capture"),
         9 => put(text, held, b": bad event"),
         10 => put(text, held, b": too many pixels"),
+        11 => put(text, held, b": malformed dump"),
+        12 => put(text, held, b": signals"),
         _ => put(text, held, b""),
     }
 }
@@ -76,6 +78,13 @@ fn value_words(text: &mut [u8], held: usize, event: u32, kind: u8, value: u8) ->
     let n = kind_words(text, held, event, kind);
     let behind = put(text, n, b", value ");
     groups::grouped(text, behind, value as u64)
+}
+
+// Why a configuration of so many bytes is none, to stand behind `words`.
+pub fn config_length(text: &mut [u8], held: usize, bytes: u64) -> usize
+    ensures { λ r. ⌜ Puts (rule.configLength bytes) held r (now (text .entry)) (now (text .exit)) ⌝ }
+{
+    between(text, held, b": ", bytes, b" bytes, a configuration has 312")
 }
 
 // Why a file is refused, to stand behind `words`.

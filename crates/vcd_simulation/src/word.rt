@@ -1,12 +1,16 @@
 // One word of the simulation.
 ghost use mathlib.Core.Path.{_≡_};
+ghost use mathlib.Core.Bool.{true, false};
 ghost use Prim.Native.Nat.{_+_, _≤_};
+ghost use lib.Dec.{eqb};
 ghost use lib.ListN.{length};
+ghost use Rattle.base.specs.Pick.{pick};
 ghost use Rattle.vcd_words.specs.Words.{among};
 ghost use Rattle.vcd_declarations.specs.Codes.{AllWithin};
+ghost use Rattle.vcd_declarations.specs.Declarations.{isEnd};
 ghost use Rattle.vcd_simulation.specs.Simulation as rule;
 ghost use Rattle.vcd_simulation.specs.Feed.{codesBy};
-ghost use Rattle.vcd_simulation.specs.InnerSteps.{Steps};
+ghost use Rattle.vcd_simulation.specs.InnerSteps.{Steps, onlyTo, codeAt, Plans, isMarked, Marks, placeOf};
 use crate::body::Body;
 use crate::body::Wanted;
 use crate::change::change;
@@ -31,6 +35,15 @@ pub(crate) struct Stepped {
     pub(crate) held: usize,
 }
 
+// What a word comes to: a change of the signals of the code that stands from a place of the word on,
+// to a level, with what may come next in the body; or only the body.
+pub(crate) struct Plan {
+    pub(crate) changes: bool,
+    pub(crate) level: u8,
+    pub(crate) from: usize,
+    pub(crate) body: Body,
+}
+
 // Only what may come next changes.
 fn goes(b: Body, wanted: Wanted) -> Body
     ensures { λ r. ⌜ r ≡ rule.goes wanted b .body ⌝ }
@@ -47,6 +60,29 @@ fn breaks(b: Body) -> Body
     ensures { λ r. ⌜ r ≡ rule.breaks b .body ⌝ }
 {
     goes(b, Wanted::Broken)
+}
+
+fn only(body: Body) -> Plan
+    ensures { λ r. ⌜ r ≡ onlyTo body ⌝ }
+{
+    Plan {
+        changes: false,
+        level: 0,
+        from: 0,
+        body,
+    }
+}
+
+fn code_at(b: Body, next: Wanted, level: u8, from: usize) -> Plan
+    ensures { λ r. ⌜ r ≡ codeAt b next level from ⌝ }
+{
+    let body = goes(b, next);
+    Plan {
+        changes: true,
+        level,
+        from,
+        body,
+    }
 }
 
 // The code is one of the five's first.
@@ -209,31 +245,18 @@ fn apart_level(first: u8, rest: &[u8]) -> u8
 }
 
 // A value change.
-fn value_word(
-    head: &[u8],
-    h: Head,
-    in_section: bool,
-    word: &[u8],
-    b: Body,
-    out: &mut [u8],
-    held: usize,
-) -> Stepped
-    requires { ⌜ AllWithin (h .codes) (length (now head)) ⌝ }
-    requires { ⌜ held + 20 ≤ length (now out) ⌝ }
-    ensures { λ r. ⌜ Steps (rule.valueWord (codesBy (now (head .entry)) h) in_section (now (word .entry)) b)
-        held r (now (out .entry)) (now (out .exit)) ⌝ }
+fn value_plan(in_section: bool, word: &[u8], b: Body) -> Plan
+    ensures { λ r. ⌜ Plans r (now (word .entry)) b (λ codes. rule.valueWord codes in_section (now (word .entry)) b) ⌝ }
 {
     if word.len() == 0 {
-        let body = breaks(b);
-        return Stepped { body, held };
+        return only(breaks(b));
     }
     let first = word[0];
     let v = level(first);
     if v < NO_LEVEL {
-        return code_word(head, h, next_of(in_section), &word[1..], v, b, out, held);
+        return code_at(b, next_of(in_section), v, 1);
     }
-    let body = apart(in_section, apart_level(first, &word[1..]), b);
-    Stepped { body, held }
+    only(apart(in_section, apart_level(first, &word[1..]), b))
 }
 
 // A time, which does not go back.
@@ -274,41 +297,33 @@ fn key_word(word: &[u8], b: Body) -> Body
     breaks(b)
 }
 
-// A simulation command begins.
-fn command_word(head: &[u8], h: Head, word: &[u8], b: Body, out: &mut [u8], held: usize) -> Stepped
-    requires { ⌜ AllWithin (h .codes) (length (now head)) ⌝ }
-    requires { ⌜ held + 20 ≤ length (now out) ⌝ }
-    ensures { λ r. ⌜ Steps (rule.commandWord (codesBy (now (head .entry)) h) (now (word .entry)) b)
-        held r (now (out .entry)) (now (out .exit)) ⌝ }
+// Whether a word begins a time or a keyword.
+fn is_marked(word: &[u8]) -> bool
+    ensures { λ r. ⌜ r ≡ isMarked (now (word .entry)) ⌝ }
 {
     if word.len() == 0 {
-        let body = breaks(b);
-        return Stepped { body, held };
+        return false;
     }
     let first = word[0];
     if first == b'#' {
-        let body = timed(time(&word[1..]), b);
-        return Stepped { body, held };
+        return true;
     }
-    if first == b'$' {
-        let body = key_word(word, b);
-        return Stepped { body, held };
-    }
-    value_word(head, h, false, word, b, out, held)
+    first == b'$'
 }
 
-// A word of a section.
-fn section_word(head: &[u8], h: Head, word: &[u8], b: Body, out: &mut [u8], held: usize) -> Stepped
-    requires { ⌜ AllWithin (h .codes) (length (now head)) ⌝ }
-    requires { ⌜ held + 20 ≤ length (now out) ⌝ }
-    ensures { λ r. ⌜ Steps (rule.sectionWord (codesBy (now (head .entry)) h) (now (word .entry)) b)
-        held r (now (out .entry)) (now (out .exit)) ⌝ }
+// A time, or a keyword.
+fn marked(word: &[u8], b: Body) -> Body
+    requires { ⌜ isMarked (now word) ≡ true ⌝ }
+    ensures { λ r. ⌜ Marks (now (word .entry)) b r ⌝ }
 {
-    if is_end(word) {
-        let body = goes(b, Wanted::Command);
-        return Stepped { body, held };
+    if word.len() == 0 {
+        return b;
     }
-    value_word(head, h, true, word, b, out, held)
+    let first = word[0];
+    if first == b'#' {
+        return timed(time(&word[1..]), b);
+    }
+    key_word(word, b)
 }
 
 // A word of a comment.
@@ -321,7 +336,79 @@ fn text_word(word: &[u8], b: Body) -> Body
     goes(b, Wanted::Text)
 }
 
-// A word, by what may come next.
+// Where a value change may stand: outside of a section, in one, or not at all.
+const OUTSIDE: u8 = 0;
+
+const INSIDE: u8 = 1;
+
+const NOWHERE: u8 = 2;
+
+fn place_of(wanted: Wanted) -> u8
+    ensures { λ r. ⌜ r ≡ placeOf wanted ⌝ }
+{
+    match wanted {
+        Wanted::Command => OUTSIDE,
+        Wanted::Section => INSIDE,
+        Wanted::Text => NOWHERE,
+        Wanted::Code(_) => NOWHERE,
+        Wanted::SectionCode(_) => NOWHERE,
+        Wanted::Broken => NOWHERE,
+    }
+}
+
+// A word where no value change may stand.
+fn other_plan(word: &[u8], b: Body) -> Plan
+    requires { ⌜ placeOf (b .wanted) ≡ 2 ⌝ }
+    ensures { λ r. ⌜ Plans r (now (word .entry)) b (λ codes. rule.wordDone codes (now (word .entry)) b) ⌝ }
+{
+    let wanted = b.wanted;
+    match wanted {
+        Wanted::Command => only(breaks(b)),
+        Wanted::Section => only(breaks(b)),
+        Wanted::Text => only(text_word(word, b)),
+        Wanted::Code(v) => code_at(b, Wanted::Command, v, 0),
+        Wanted::SectionCode(v) => code_at(b, Wanted::Section, v, 0),
+        Wanted::Broken => only(breaks(b)),
+    }
+}
+
+fn ends_section(place: u8, word: &[u8]) -> bool
+    ensures { λ r. ⌜ r ≡ pick (eqb place 1) (isEnd (now (word .entry))) false ⌝ }
+{
+    if place == INSIDE {
+        return is_end(word);
+    }
+    false
+}
+
+fn begins_command(place: u8, word: &[u8]) -> bool
+    ensures { λ r. ⌜ r ≡ pick (eqb place 0) (isMarked (now (word .entry))) false ⌝ }
+{
+    if place == OUTSIDE {
+        return is_marked(word);
+    }
+    false
+}
+
+// By what may come next.
+fn plan_of(word: &[u8], b: Body) -> Plan
+    ensures { λ r. ⌜ Plans r (now (word .entry)) b (λ codes. rule.wordDone codes (now (word .entry)) b) ⌝ }
+{
+    let wanted = b.wanted;
+    let place = place_of(wanted);
+    if place == NOWHERE {
+        return other_plan(word, b);
+    }
+    if ends_section(place, word) {
+        return only(goes(b, Wanted::Command));
+    }
+    if begins_command(place, word) {
+        return only(marked(word, b));
+    }
+    value_plan(place == INSIDE, word, b)
+}
+
+// A word.
 pub(crate) fn word_done(
     head: &[u8],
     h: Head,
@@ -335,19 +422,12 @@ pub(crate) fn word_done(
     ensures { λ r. ⌜ Steps (rule.wordDone (codesBy (now (head .entry)) h) (now (word .entry)) b)
         held r (now (out .entry)) (now (out .exit)) ⌝ }
 {
-    let wanted = b.wanted;
-    match wanted {
-        Wanted::Command => command_word(head, h, word, b, out, held),
-        Wanted::Section => section_word(head, h, word, b, out, held),
-        Wanted::Text => {
-            let body = text_word(word, b);
-            Stepped { body, held }
-        }
-        Wanted::Code(v) => code_word(head, h, Wanted::Command, word, v, b, out, held),
-        Wanted::SectionCode(v) => code_word(head, h, Wanted::Section, word, v, b, out, held),
-        Wanted::Broken => {
-            let body = breaks(b);
-            Stepped { body, held }
-        }
+    let plan = plan_of(word, b);
+    let body = plan.body;
+    if plan.changes {
+        let next = body.wanted;
+        let from = plan.from;
+        return code_word(head, h, next, &word[from..], plan.level, b, out, held);
     }
+    Stepped { body, held }
 }

@@ -7,6 +7,24 @@ use std::process::{Command, Output};
 
 const DUMPS: &str = env!("CARGO_BIN_EXE_dumps");
 
+/// The real dumps, in the order of their README.
+const REAL: [&str; 14] = [
+    "icarus",
+    "icarus-all",
+    "fst2vcd",
+    "sigrok",
+    "ghdl-ns",
+    "verilator",
+    "icarus-1ps",
+    "verilator-1ps",
+    "ghdl",
+    "icarus-x",
+    "icarus-pause",
+    "ghdl-u",
+    "icarus-twice",
+    "verilator-twice",
+];
+
 /// A folder of this test's own.
 fn folder(name: &str) -> PathBuf {
     let folder = std::env::temp_dir().join(format!("dumps-test-{name}-{}", std::process::id()));
@@ -64,4 +82,32 @@ fn a_fault_is_seen_and_kept() {
         }
         fs::remove_dir_all(here).expect("it is ours");
     }
+}
+
+/// The batch of `jollanqe` ends with the dumps made by hand, and then the real ones.
+#[test]
+fn the_stored_dumps_are_the_written_ones() {
+    let here = folder("stored");
+    assert!(run(&here, &["cases", "."]).status.success());
+    let root = Path::new(env!("CARGO_MANIFEST_DIR")).join("../..");
+    let stored = root.join("../crates/jollanqe");
+    let read = |path: PathBuf| fs::read(&path).unwrap_or_else(|_| panic!("{path:?}"));
+    let (mut jobs, mut lines) = (read(here.join("stdin")), read(here.join("stdout")));
+    for entry in fs::read_dir(here.join("data")).expect("it was made") {
+        let name = entry.expect("it was made").file_name();
+        let kept = read(stored.join("data").join(&name));
+        assert!(kept == read(here.join("data").join(&name)), "{name:?}");
+    }
+    for name in REAL {
+        jobs.extend(format!("vcd panel.config {name}.vcd\n").into_bytes());
+        lines.extend(read(root.join(format!("dumps/real/{name}.out"))));
+        let dump = read(root.join(format!("dumps/real/{name}.vcd")));
+        assert!(
+            read(stored.join(format!("data/{name}.vcd"))) == dump,
+            "{name}"
+        );
+    }
+    assert!(read(stored.join("stdin")).ends_with(&jobs));
+    assert!(read(stored.join("stdout")).ends_with(&lines));
+    fs::remove_dir_all(here).expect("it is ours");
 }

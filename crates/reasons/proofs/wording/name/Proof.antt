@@ -48,14 +48,26 @@ unfolding nameOf
 returns-10 c = puts-as (c .before .before .put10 .ensures) (sym (ap nameOf (c .before .before .before .before .before .match .keys10)))
 
 returns-11 : tie.Need-returns-11
-returns-11 c =
+unfolding nameOf
+returns-11 c = puts-as (c .before .before .put11 .ensures) (sym (ap nameOf (c .before .before .before .before .before .match .keys11)))
+
+returns-12 : tie.Need-returns-12
+unfolding nameOf
+returns-12 c = puts-as (c .before .before .put12 .ensures) (sym (ap nameOf (c .before .before .before .before .before .match .keys12)))
+
+returns-13 : tie.Need-returns-13
+returns-13 c =
     let arm = c .before .before .before .before .before in
-    puts-as (c .before .before .put11 .ensures) (unnamed (arm .before .before .args .number) (arm .match .rest))
+    puts-as (c .before .before .put13 .ensures) (unnamed (arm .before .before .args .number) (arm .match .rest))
 
 pub name-spec : {M : Type 1} → statement M
 name-spec =
     tie.close
     (tie.spec
+    (λ c. search needs)
+    (λ c κs. search needs)
+    (λ c. search needs)
+    (λ c κs. search needs)
     (λ c. search needs)
     (λ c κs. search needs)
     (λ c. search needs)
@@ -99,4 +111,8 @@ name-spec =
     (λ c. search needs)
     returns-10
     (λ c. search needs)
-    returns-11)
+    returns-11
+    (λ c. search needs)
+    returns-12
+    (λ c. search needs)
+    returns-13)

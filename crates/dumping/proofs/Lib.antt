@@ -1,0 +1,3 @@
+pub mod Lost
+pub mod ReadLaws
+pub mod PlayLaws
