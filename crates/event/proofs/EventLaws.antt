@@ -17,6 +17,7 @@ use Rattle.controller.specs.World.{World}
 use Rattle.controller.specs.TurnedBack.{turnedBack}
 use Rattle.controller.specs.Calls.{commandCall, dataCall, readCall, readAnswer, resetCall, advanceCall}
 use Rattle.controller.specs.Ask.{Answer, nothing, byte, count, low, due, bit, part}
+use Rattle.controller.specs.Counting.{own}
 use Rattle.event.specs.declared.Event.{Event}
 use Rattle.capture.specs.Little.{little}
 use Rattle.event.specs.Events.{eventAt, asserts, eventDone, eventRefused, readNumber, eventAnswer}
@@ -29,11 +30,11 @@ pub record Does (e : Event) (w v : World) (refused answer : ℕ) : Type 0 where
   pub gives : answer ≡ eventAnswer e w
 
 module _ (e : Event) (w v : World) (n : ℕ) where
-  pub does-command : e .kind ≡ 1 → v ≡ commandCall (e .time) (e .value) w → n ≡ turnedBack false (e .time) w → Does e w v n 257
+  pub does-command : e .kind ≡ 1 → v ≡ commandCall own (e .time) (e .value) w → n ≡ turnedBack false (e .time) w → Does e w v n 257
   unfolding eventDone eventRefused eventAnswer asserts
   does-command k h r = record { done = rw k h; turned = rw k r; gives = rw k }
 
-  pub does-data : e .kind ≡ 2 → v ≡ dataCall (e .time) (e .value) w → n ≡ turnedBack false (e .time) w → Does e w v n 257
+  pub does-data : e .kind ≡ 2 → v ≡ dataCall own (e .time) (e .value) w → n ≡ turnedBack false (e .time) w → Does e w v n 257
   unfolding eventDone eventRefused eventAnswer asserts
   does-data k h r = record { done = rw k h; turned = rw k r; gives = rw k }
 
@@ -42,7 +43,7 @@ module _ (e : Event) (w v : World) (n : ℕ) where
   unfolding eventDone eventRefused eventAnswer asserts
   does-read b k h r a = record { done = rw k h; turned = rw k r; gives = rw k a }
 
-  pub does-reset : e .kind ≡ 4 → v ≡ resetCall (e .time) (eqb (e .value) 1) w → n ≡ turnedBack (eqb (e .value) 1) (e .time) w
+  pub does-reset : e .kind ≡ 4 → v ≡ resetCall own (e .time) (eqb (e .value) 1) w → n ≡ turnedBack (eqb (e .value) 1) (e .time) w
       → Does e w v n 257
   unfolding eventDone eventRefused eventAnswer asserts
   does-reset k h r = record { done = rw k h; turned = rw k r; gives = rw k }

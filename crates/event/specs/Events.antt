@@ -11,6 +11,7 @@ use Rattle.controller.specs.declared.reads.Read.the-variants.{Byte, Nothing}
 use Rattle.controller.specs.World.{World}
 use Rattle.controller.specs.TurnedBack.{turnedBack}
 use Rattle.controller.specs.Calls.{commandCall, dataCall, readCall, readAnswer, resetCall, advanceCall}
+use Rattle.controller.specs.Counting.{own}
 use Rattle.event.specs.declared.Event.{Event}
 use Rattle.capture.specs.Little.{little}
 
@@ -29,10 +30,10 @@ asserts e = eqb (e .kind) 4 && eqb (e .value) 1
 -- 1 command, 2 data, 3 read, 4 reset, 5 advance; any other kind leaves all as it is
 unfoldable pub eventDone : Event → World → World
 eventDone e w =
-    pick (eqb (e .kind) 1) (commandCall (e .time) (e .value) w)
-    (pick (eqb (e .kind) 2) (dataCall (e .time) (e .value) w)
+    pick (eqb (e .kind) 1) (commandCall own (e .time) (e .value) w)
+    (pick (eqb (e .kind) 2) (dataCall own (e .time) (e .value) w)
     (pick (eqb (e .kind) 3) (readCall (e .time) w)
-    (pick (eqb (e .kind) 4) (resetCall (e .time) (eqb (e .value) 1) w)
+    (pick (eqb (e .kind) 4) (resetCall own (e .time) (eqb (e .value) 1) w)
     (pick (eqb (e .kind) 5) (advanceCall (e .time) w)
     w))))
 
