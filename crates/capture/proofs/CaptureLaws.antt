@@ -75,16 +75,15 @@ pub record Whole (file : List ℕ) : Type 0 where
   pub offset-is : offsetOf file ≡ 10 * countOf file
   pub length-is : (length file ≡ offsetOf file + 320) ⊎ (length file ≡ offsetOf file + 328)
 
-either-length : (file : List ℕ) → (eqb (length file) (offsetOf file + 320) || rated file) ≡ true
-    → (length file ≡ offsetOf file + 320) ⊎ (length file ≡ offsetOf file + 328)
-unfolding rated
-either-length file e =
-    by-cases (eqb (length file) (offsetOf file + 320))
+pub either-length : (bytes offset : ℕ) → (eqb bytes (offset + 320) || eqb bytes (offset + 328)) ≡ true
+    → (bytes ≡ offset + 320) ⊎ (bytes ≡ offset + 328)
+either-length bytes offset e =
+    by-cases (eqb bytes (offset + 320))
     (λ plain. inl (eqb-true _ _ plain))
     (λ more. inr (eqb-true _ _ (rw more at e)))
 
 pub whole : (file : List ℕ) → broken file ≡ false → Whole file
-unfolding broken
+unfolding broken rated
 whole file b =
     let short = neither (ltb (length file) 320) _ b in
     let long = neither (ltb 65536 (length file)) _ (short .1) in
@@ -93,7 +92,7 @@ whole file b =
       least = ltb-false _ _ (short .0);
       most = ltb-false _ _ (long .0);
       offset-is = eqb-true _ _ (not-false _ (tail .0));
-      length-is = either-length file (not-false _ (tail .1));
+      length-is = either-length (length file) (offsetOf file) (not-false _ (tail .1));
     }
 
 one-length : (file : List ℕ) → (length file ≡ offsetOf file + 320) ⊎ (length file ≡ offsetOf file + 328)
