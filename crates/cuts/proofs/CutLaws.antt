@@ -31,7 +31,7 @@ use Rattle.controller.specs.Calls.{called, resetCall}
 use Rattle.controller.specs.Counting.{own}
 use Rattle.controller.proofs.Ends.{ended-image}
 use Rattle.event.specs.declared.Event.{Event}
-use Rattle.event.specs.Events.{asserts, eventDone, eventRefused}
+use Rattle.event.specs.Events.{asserts, eventDone, eventDoneBy, eventRefused}
 use Rattle.cuts.specs.Cuts.{isCut, cutAt}
 
 -- ---- the tests of a cut, one by one
@@ -297,7 +297,7 @@ time-marks-none t w =
 
 -- ---- the same of an event that its call takes
 is-reset : (e : Event) (w : World) → asserts e ≡ true → eventDone e w ≡ resetCall own (e .time) true w
-unfolding asserts eventDone
+unfolding asserts eventDone eventDoneBy
 is-reset e w a =
     let k : e .kind ≡ 4 = eqb-true (e .kind) 4 (first (eqb (e .kind) 4) (eqb (e .value) 1) a) in
     let v : e .value ≡ 1 = eqb-true (e .value) 1 (second (eqb (e .kind) 4) (eqb (e .value) 1) a) in

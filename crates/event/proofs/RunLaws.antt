@@ -19,7 +19,7 @@ use Rattle.controller.specs.Calls.{called}
 use Rattle.controller.specs.Sound.{Sound}
 use Rattle.controller.proofs.Sound.{sound-arrived, sound-command, sound-data, sound-reading, sound-reset, never-turned}
 use Rattle.event.specs.declared.Event.{Event}
-use Rattle.event.specs.Events.{eventsIn, eventAt, ran, asserts, eventDone, eventRefused, eventAnswer, ranTo, answersTo, earlier, refusedIn}
+use Rattle.event.specs.Events.{eventsIn, eventAt, ran, asserts, eventDone, eventDoneBy, eventRefused, eventAnswer, ranTo, answersTo, earlier, refusedIn}
 use Rattle.event.proofs.EventLaws.{event-drop}
 
 pub answers-length : (bytes : List ℕ) (n : ℕ) (w : World) (answers : List ℕ) → length (answersTo bytes n w answers) ≡ length answers
@@ -55,7 +55,7 @@ unfolding called
 sound-called a t f w k s = both Sound (eqb (turnedBack a t w) 0) (k (arrived t w) (sound-arrived t w s)) s
 
 pub sound-event : (e : Event) (w : World) → e .value < 256 → Sound w → Sound (eventDone e w)
-unfolding eventDone
+unfolding eventDone eventDoneBy
 sound-event e w h s =
     both Sound (eqb (e .kind) 1) (sound-called false (e .time) _ w (λ v. sound-command (e .value) v h) s)
     (both Sound (eqb (e .kind) 2) (sound-called false (e .time) _ w (λ v. sound-data (e .value) v h) s)
