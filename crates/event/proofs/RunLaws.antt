@@ -6,7 +6,8 @@ use Prim.Native.Nat.{ℕ, _+_, _*_, _<_, _≤_}
 use native.Mathlib.Omega.{arith}
 use native.Mathlib.Decide.{decLe}
 use lib.Dec.{eqb}
-use lib.ListN.{length, getD, drop, length-set, length-drop}
+use lib.ListN.{length, getD, take, drop, length-set, length-take, length-drop}
+use lib.Seq.{getD-take}
 use Rattle.base.specs.Pick.{between}
 use Rattle.base.specs.Turns.{turns}
 use Rattle.base.proofs.Cases.{both}
@@ -77,6 +78,9 @@ byte-anywhere bytes b k = elim (decLe (length bytes) k) [
   | yes h ↦ omega (arith, getD-past bytes k 0 h)
   | no h ↦ b k (omega (arith, h))
 ]
+
+pub front-byte : (n : ℕ) (l : List ℕ) → Bytes l → Bytes (take n l)
+front-byte n l h k q = rw (getD-take n l k 0 (omega (arith, length-take n l))) (byte-anywhere l h k)
 
 value-byte : (bytes : List ℕ) → Bytes bytes → (i : ℕ) → eventAt bytes i .value < 256
 unfolding eventAt
