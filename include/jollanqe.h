@@ -354,8 +354,9 @@ JOLLANQE_HOLDS(sizeof(jollanqe_asked) == 16 && offsetof(jollanqe_asked, known) =
 /*
  * Makes a panel from the configuration of a capture file: the 312 bytes to which the file's trailer
  * points (a file of these and the trailer 0, 0 will do), at 1 GHz, or at the rate behind them where the
- * file has offset + 328 bytes. Bytes past the file's end count as 0, so an empty file is refused by 1. Refusals 8 and 9 are not tested: a variant other than 0 is a UC8279d, and
- * flags above bit 2 are passed over. Every entry of the six buffers is set.
+ * file has offset + 328 bytes. Bytes past the file's end count as 0, so an empty file is refused by 1.
+ * Refusals 8 and 9 are not tested: a variant other than 0 is a UC8279d, and flags above bit 2 are passed
+ * over. Every entry of the six buffers is set.
  */
 jollanqe_given jollanqe_make(const uint8_t *file, size_t file_length, uint8_t *old_plane, size_t old_length,
                              uint8_t *new_plane, size_t new_length, int64_t *states, size_t states_length,
