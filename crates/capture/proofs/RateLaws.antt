@@ -68,34 +68,35 @@ module _ (events config trailer : List ℕ) (long : length config ≡ 312) (end 
       parts-config events config [] trailer long end points
       ∙ ap (λ (rate : ℕ). configBy rate config 0) (rate-none (events ++ (config ++ trailer)) whole)
 
-  module _ (rate : List ℕ) (eight : length rate ≡ 8) where
-    abbrev withRate : List ℕ
-    withRate = events ++ (config ++ (rate ++ trailer))
+module _ (events config rate trailer : List ℕ) (long : length config ≡ 312) (eight : length rate ≡ 8) (end : length trailer ≡ 8)
+    (points : little trailer 0 4 ≡ length events) where
+  abbrev withRate : List ℕ
+  withRate = events ++ (config ++ (rate ++ trailer))
 
-    rate-bytes : little withRate (offsetOf withRate + 312) 8 ≡ little rate 0 8
-    rate-bytes =
-        let place : offsetOf withRate + 312 ≡ length events + (length config + 0) =
-        omega (arith, long, parts-offset events config rate trailer long end points) in
-        ap (λ (p : ℕ). little withRate p 8) place
-        ∙ little-behind events (config ++ (rate ++ trailer)) (length config + 0) 8
-        ∙ little-behind config (rate ++ trailer) 0 8
-        ∙ little-same (rate ++ trailer) rate 0 8 front 0 8 (omega arith)
-      where
-        front : (p : ℕ) → p < 8 → getD (rate ++ trailer) (0 + p) 0 ≡ getD rate p 0
-        front p h = rw (zero-add p) (List·getD-append rate trailer 0 p (omega (arith, h, eight)))
+  rate-bytes : little withRate (offsetOf withRate + 312) 8 ≡ little rate 0 8
+  rate-bytes =
+      let place : offsetOf withRate + 312 ≡ length events + (length config + 0) =
+      omega (arith, long, parts-offset events config rate trailer long end points) in
+      ap (λ (p : ℕ). little withRate p 8) place
+      ∙ little-behind events (config ++ (rate ++ trailer)) (length config + 0) 8
+      ∙ little-behind config (rate ++ trailer) 0 8
+      ∙ little-same (rate ++ trailer) rate 0 8 front 0 8 (omega arith)
+    where
+      front : (p : ℕ) → p < 8 → getD (rate ++ trailer) (0 + p) 0 ≡ getD rate p 0
+      front p h = rw (zero-add p) (List·getD-append rate trailer 0 p (omega (arith, h, eight)))
 
-    pub rated-config : configIn withRate ≡ configBy (little rate 0 8) config 0
-    rated-config =
-        let whole : length withRate ≡ offsetOf withRate + 328 =
-        omega (
-          arith,
-          eight,
-          parts-length events config rate trailer long end points,
-          parts-offset events config rate trailer long end points,
-        )
-        in
-        parts-config events config rate trailer long end points
-        ∙ ap (λ (r : ℕ). configBy r config 0) (rate-last withRate whole ∙ rate-bytes)
+  pub rated-config : configIn withRate ≡ configBy (little rate 0 8) config 0
+  rated-config =
+      let whole : length withRate ≡ offsetOf withRate + 328 =
+      omega (
+        arith,
+        eight,
+        parts-length events config rate trailer long end points,
+        parts-offset events config rate trailer long end points,
+      )
+      in
+      parts-config events config rate trailer long end points
+      ∙ ap (λ (r : ℕ). configBy r config 0) (rate-last withRate whole ∙ rate-bytes)
 
-    pub rate-appended : little rate 0 8 ≡ billion → configIn withRate ≡ configIn (events ++ (config ++ trailer))
-    rate-appended e = rated-config ∙ ap (λ (r : ℕ). configBy r config 0) e ∙ sym plain-config
+  pub rate-appended : little rate 0 8 ≡ billion → configIn withRate ≡ configIn (events ++ (config ++ trailer))
+  rate-appended e = rated-config ∙ ap (λ (r : ℕ). configBy r config 0) e ∙ sym (plain-config events config trailer long end points)

@@ -82,6 +82,9 @@ exampleConfig rate = record {
   «ambient_celsius» = 0;
 }
 
+pub example-config : (rate : Bool) → configBy (hertz rate) example 0 ≡ exampleConfig rate
+example-config rate = refl
+
 example-accepted : (rate : Bool) → refusal (exampleConfig rate) ≡ 0
 unfolding refusal emptyPanel oversizedPanel swingRefused periodRefused rateRefused badRate
 example-accepted true = refl
@@ -139,8 +142,8 @@ module _ (rate : Bool) (n : ℕ) (h : n ≤ 6521) where
   byte-file = parts-byte (advances n) example (rateBytes rate) (trailer n) refl refl points
 
 config-file : (rate : Bool) (n : ℕ) → n ≤ 6521 → configIn (file rate n) ≡ exampleConfig rate
-config-file true n h = rated-config (advances n) example (trailer n) refl refl (points true n h) (eight 32_768) refl
-config-file false n h = plain-config (advances n) example (trailer n) refl refl (points false n h)
+config-file true n h = rated-config (advances n) example (eight 32_768) (trailer n) refl refl refl (points true n h) ∙ example-config true
+config-file false n h = plain-config (advances n) example (trailer n) refl refl (points false n h) ∙ example-config false
 
 length-fits : (rate : Bool) (n : ℕ) → n ≤ 6521
     → (length (file rate n) ≡ offsetOf (file rate n) + 320) ⊎ (length (file rate n) ≡ offsetOf (file rate n) + 328)

@@ -18,7 +18,12 @@ unfolding broken
 returns-3 c =
     let long = c .before .before .before in
     let t = long .before .before .before .pre in
-    rw (← t .offset-is, ← t .count-is) (simp (ne-eqb _ _ (c .if3 .taken), le-ltb _ _ (long .if2 .left), le-ltb _ _ (long .before .if1 .left)))
+    rw (← t .offset-is, ← t .count-is)
+    (simp (
+      ne-eqb _ _ (c .if3 .taken),
+      le-ltb _ _ (long .if2 .left),
+      le-ltb _ _ (long .before .if1 .left),
+    ))
 
 returns-4 : tie.Need-returns-4
 unfolding broken
@@ -26,7 +31,13 @@ returns-4 c =
     let offset = c .before .before in
     let long = offset .before .before .before in
     let t = long .before .before .before .pre in
-    rw (← t .offset-is, ← t .count-is) (simp (eq-eqb _ _ (c .if4 .taken), eq-eqb _ _ (offset .if3 .left), le-ltb _ _ (long .if2 .left), le-ltb _ _ (long .before .if1 .left)))
+    rw (← t .offset-is, ← t .count-is)
+    (simp (
+      eq-eqb _ _ (c .if4 .taken),
+      eq-eqb _ _ (offset .if3 .left),
+      le-ltb _ _ (long .if2 .left),
+      le-ltb _ _ (long .before .if1 .left),
+    ))
 
 returns-5 : tie.Need-returns-5
 unfolding broken
@@ -35,7 +46,13 @@ returns-5 c =
     let offset = plain .before .before in
     let long = offset .before .before .before in
     let t = long .before .before .before .pre in
-    rw (← c .rated .ensures, ← t .offset-is, ← t .count-is) (simp (ne-eqb _ _ (plain .if4 .left), eq-eqb _ _ (offset .if3 .left), le-ltb _ _ (long .if2 .left), le-ltb _ _ (long .before .if1 .left)))
+    rw (← c .rated .ensures, ← t .offset-is, ← t .count-is)
+    (simp (
+      ne-eqb _ _ (plain .if4 .left),
+      eq-eqb _ _ (offset .if3 .left),
+      le-ltb _ _ (long .if2 .left),
+      le-ltb _ _ (long .before .if1 .left),
+    ))
 
 pub broken-spec : {M : Type 1} → statement M
 broken-spec =

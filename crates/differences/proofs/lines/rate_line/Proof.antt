@@ -13,7 +13,8 @@ returns c =
     let third = fourth .before .before .before .before in
     let second = third .before .before .before .before .before in
     let first = second .before .before .before .before in
-    puts-then (puts-then (puts-then (puts-then (first .put .ensures) (second .number .ensures)) (third .put2 .ensures)) (fourth .number2 .ensures)) (fifth .byte .ensures)
+    let two = puts-then (first .put .ensures) (second .number .ensures) in
+    puts-then (puts-then (puts-then two (third .put2 .ensures)) (fourth .number2 .ensures)) (fifth .byte .ensures)
 
 pub rate-line-spec : {M : Type 1} → statement M
 rate-line-spec =

@@ -16,7 +16,8 @@ returns c =
     let start = find .before .before .before .before in
     let a = start .args in
     puts-as (said .config-line .ensures)
-    (ap (λ (p : Place). configBy p (a .a .now) (a .b .now) (a .rate-a) (a .rate-b)) (sym (arm .place .given .1) ∙ find .first-byte .ensures))
+    (ap (λ (p : Place). configBy p (a .a .now) (a .b .now) (a .rate-a) (a .rate-b))
+    (sym (arm .place .given .1) ∙ find .first-byte .ensures))
 
 returns-2 : tie.Need-returns-2
 unfolding configPart
@@ -27,7 +28,8 @@ returns-2 c =
     let start = find .before .before .before .before in
     let a = start .args in
     puts-as (said .rate-part .ensures)
-    (ap (λ (p : Place). configBy p (a .a .now) (a .b .now) (a .rate-a) (a .rate-b)) (sym (arm .enum-told .given .1) ∙ find .first-byte .ensures))
+    (ap (λ (p : Place). configBy p (a .a .now) (a .b .now) (a .rate-a) (a .rate-b))
+    (sym (arm .enum-told .given .1) ∙ find .first-byte .ensures))
 
 pub config-part-spec : {M : Type 1} → statement M
 config-part-spec =
