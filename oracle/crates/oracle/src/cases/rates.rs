@@ -80,7 +80,7 @@ fn times() -> Vec<Case> {
         .worked(THREE_HERTZ),
         Case::new(
             "rate-part-of-a-cycle",
-            "at 1,500,000 Hz a refresh of 4.5 cycles takes 5, and at the fourth it is busy; worked by hand",
+            "at 1,500,000 Hz a refresh of 4.5 cycles takes 5: it is busy after 4; worked by hand",
             refresh(rated(1_500_000), 0, 1)
                 .at(5)
                 .command(0x10, &[])
@@ -150,7 +150,7 @@ fn cuts() -> Vec<Case> {
             all_of(grey)
         );
         let shows = format!(
-            "at 3 Hz a reset {cycles} cycles into a refresh of 8: {frames} whole frames of 500 ms; worked by hand"
+            "at 3 Hz a reset at cycle {cycles} of 8 of a refresh, whole frames of 500 ms until then: {frames}; worked by hand"
         );
         cases.push(Case::new(name, shows, cut(cycles)).worked(output));
     }
@@ -158,7 +158,8 @@ fn cuts() -> Vec<Case> {
         "diag 1 13 36 6 0\ndropped 0\nimage 8 1 1 full 0 1 9\n{}\n",
         all_of(191)
     );
-    let shows = "at 3 Hz a reset in the cycle of the end: the refresh ended by itself first; worked by hand";
+    let shows =
+        "at 3 Hz a reset at cycle 8 of 8: the refresh ended by itself first; worked by hand";
     cases.push(Case::new("rate-cut-8", shows, cut(8)).worked(output));
     cases
 }
