@@ -32,7 +32,8 @@ fn sides<T>(a: &[T], b: &[T], at: usize, words: impl Fn(&T) -> String) -> String
     }
 }
 
-/// A capture that was accepted, its configuration as the file has it, and what it leaves.
+/// A capture that was accepted, its configuration as the file has it and then the rate, whether
+/// the file has that or not, and what it leaves.
 struct Side {
     events: Vec<Event>,
     configuration: Vec<u8>,
@@ -41,11 +42,16 @@ struct Side {
 
 fn side(file: &[u8]) -> Result<Side, u8> {
     let (capture, chip) = run::accept_any(file).map_err(|refusal| refusal.number())?;
-    let Capture { events, .. } = capture;
-    let from = file.len() - CONFIGURATION_BYTES - 8;
+    let Capture {
+        configuration: of,
+        events,
+    } = capture;
+    let from = file.len() - of.tail_bytes();
+    let mut configuration = file[from..from + CONFIGURATION_BYTES].to_vec();
+    configuration.extend(of.hertz().to_le_bytes());
     Ok(Side {
         outcome: run::events(chip, &events, |_, _, _| ()),
-        configuration: file[from..from + CONFIGURATION_BYTES].to_vec(),
+        configuration,
         events,
     })
 }

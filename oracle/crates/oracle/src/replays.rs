@@ -73,7 +73,7 @@ impl Sample {
 
     /// The small cases, by name.
     fn add_cases(&mut self) {
-        let mut cases = cases::all();
+        let mut cases = cases::without_rates();
         cases.sort_by_key(|case| case.name);
         for case in cases {
             self.add(&case.file, &run::run(&case.file));
@@ -86,7 +86,7 @@ impl Sample {
         let mut seeds = seed..;
         while left != [0; ENDS.len()] {
             let Some(seed) = seeds.next() else { return };
-            let file = generate::make(seed);
+            let file = generate::plain(seed);
             let (end, output) = played(&file);
             let left = &mut left[end as usize];
             if *left > 0 && file.len() <= end.most_bytes() {

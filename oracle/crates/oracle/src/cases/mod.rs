@@ -1,6 +1,7 @@
 //! `oracle cases` and `oracle check`: small captures with the output each must give.
 
 mod commands;
+mod rates;
 mod refreshes;
 mod refusals;
 
@@ -15,21 +16,21 @@ use crate::script::{Script, example_panel};
 pub struct Case {
     pub name: &'static str,
     /// One line for the index.
-    shows: &'static str,
+    shows: String,
     pub file: Vec<u8>,
     /// The output as a paper has it or as worked by hand; without one it is the published Rust's.
     output: Option<String>,
 }
 
 impl Case {
-    fn new(name: &'static str, shows: &'static str, script: Script) -> Case {
+    fn new(name: &'static str, shows: impl Into<String>, script: Script) -> Case {
         Case::of_file(name, shows, script.file())
     }
 
-    fn of_file(name: &'static str, shows: &'static str, file: Vec<u8>) -> Case {
+    fn of_file(name: &'static str, shows: impl Into<String>, file: Vec<u8>) -> Case {
         Case {
             name,
-            shows,
+            shows: shows.into(),
             file,
             output: None,
         }
@@ -67,6 +68,13 @@ pub fn example() -> Script {
 }
 
 pub fn all() -> Vec<Case> {
+    let mut cases = without_rates();
+    cases.extend(rates::cases());
+    cases
+}
+
+/// Those that are older than the board's own clock.
+pub fn without_rates() -> Vec<Case> {
     let shows = "document 01's worked example; the output is the paper's";
     let mut cases = vec![Case::new("example", shows, example()).worked(EXAMPLE_OUTPUT)];
     cases.extend(refreshes::cases());
