@@ -68,18 +68,12 @@ pub fn example() -> Script {
 }
 
 pub fn all() -> Vec<Case> {
-    let mut cases = without_rates();
-    cases.extend(rates::cases());
-    cases
-}
-
-/// Those that are older than the board's own clock.
-pub fn without_rates() -> Vec<Case> {
     let shows = "document 01's worked example; the output is the paper's";
     let mut cases = vec![Case::new("example", shows, example()).worked(EXAMPLE_OUTPUT)];
     cases.extend(refreshes::cases());
     cases.extend(commands::cases());
     cases.extend(refusals::cases());
+    cases.extend(rates::cases());
     cases
 }
 
