@@ -5,6 +5,7 @@ use mathlib.Core.List.{List}
 use Prim.Native.Nat.{ℕ, _+_, _<_}
 use native.Mathlib.Omega.{arith}
 use lib.Dec.{eqb}
+use lib.ListN.{take}
 use borrow.Author.Tests.{eqb-false}
 use Rattle.base.specs.Pick.{pick}
 use Rattle.base.specs.RefusalNumbers.{refusalNumber}
