@@ -1,3 +1,4 @@
 pub mod Lost
 pub mod ReadLaws
 pub mod PlayLaws
+pub mod JobLaws

@@ -13,7 +13,8 @@ use Rattle.vcd_words.specs.Words.{words, closed, opened}
 use Rattle.vcd_words.proofs.Cutting.{words-cut}
 use Rattle.vcd_declarations.specs.declared.head.Begun.{Begun}
 use Rattle.vcd_declarations.specs.Begun.{Begins}
-use Rattle.vcd_declarations.proofs.Settled.{settled-five, settled-head, settled}
+use Rattle.vcd_declarations.proofs.Settled.{settled}
+use Rattle.vcd_simulation.proofs.SameCodes.{codes-settled}
 use Rattle.vcd_simulation.specs.declared.body.Wanted.{Wanted}
 use Rattle.vcd_simulation.specs.declared.body.Wanted.the-variants as want
 use Rattle.vcd_simulation.specs.declared.body.Body.{Body}
@@ -87,11 +88,7 @@ module _ (d : List ℕ) (r : Reader) (kept word : List ℕ) (w v : World) (g : P
   d-begins = rw (g .dump-is) (settled front (r .begun) (g .begins) (g .settled) (g .later))
 
   codes-same : codesBy front (r .begun .head) ≡ codesBy (d ++ more) (r .begun .head)
-  codes-same = rw (
-    longer,
-    settled-head front (r .begun) (g .begins) (g .settled) (g .later ++ more),
-    settled-five front (g .later ++ more) (r .begun .head .codes) (g .begins .codes-in),
-  )
+  codes-same = rw longer (sym (codes-settled front (r .begun) (g .begins) (g .settled) (g .later ++ more)))
 
   abbrev last : Body
   last = bodyAfter (d ++ more) (r .begun .head) (r .begun .next)

@@ -6,6 +6,7 @@ use Prim.Native.Nat.{ℕ, _+_, _-_, _≤_}
 use native.Mathlib.Omega.{arith}
 use lib.ListN.{length, take, drop}
 use lib.Seq.{take-add}
+use Rattle.base.proofs.Cases.{by-cases}
 use Rattle.base.specs.Pick.{pick}
 use Rattle.controller.specs.declared.Uc8253.{Uc8253}
 use Rattle.controller.specs.World.{World, Buffers, world}
@@ -24,7 +25,7 @@ use Rattle.dumping.specs.declared.reading.Course.the-variants as course
 use Rattle.dumping.specs.declared.reading.Gone.{Gone}
 use Rattle.dumping.specs.declared.reading.Verdict.{Verdict}
 use Rattle.dumping.specs.declared.reading.Verdict.the-variants as verdict
-use Rattle.dumping.specs.Reading.{isOn, isLost, settledIn, isSettled, courseOf, Steps, Plays, Begins, ended, isStopped, Stood, settledEnding, stoppedVerdict, Tells}
+use Rattle.dumping.specs.Reading.{isOn, isLost, settledIn, isSettled, courseOf, Steps, Plays, Begins, ended, lastOf, isStopped, Stood, settledEnding, stoppedVerdict, Tells}
 use Rattle.dumping.proofs.Lost.{lost-malformed}
 
 -- ---- the pieces of a chunk
@@ -98,6 +99,15 @@ pub stood-ended : (x : Course) (g q : Gone) (kept word : List ℕ) (b : Buffers)
 stood-ended x g q kept word b w e k s =
     subst (λ (y : Gone). Stood y kept word w (world (y .chip) b)) (sym k)
     (record { dump = s .dump; stands = s .stands; settled = λ t. absurd (true≢false (sym t ∙ e)) })
+
+pub stood-last : (over : Bool) (g q : Gone) (kept word : List ℕ) (b : Buffers) (w : World) → q ≡ lastOf over g
+    → Stood g kept word w (world (g .chip) b) → Stood q kept word w (world (q .chip) b)
+unfolding lastOf
+stood-last false g q kept word b w k s = subst (λ (y : Gone). Stood y kept word w (world (y .chip) b)) (sym k) s
+stood-last true g q kept word b w k s =
+    by-cases (isOn (g .course))
+    (λ e. stood-ended course.Whole g q kept word b w refl (k ∙ rw e) s)
+    (λ e. subst (λ (y : Gone). Stood y kept word w (world (y .chip) b)) (sym (k ∙ rw e)) s)
 
 on-runs : (x : Course) → isOn x ≡ true → isStopped x ≡ false
 on-runs course.On e = refl

@@ -2,12 +2,13 @@
 use mathlib.Core.Path.{_≡_}
 use mathlib.Core.List.{List}
 use Prim.Native.Nat.{ℕ}
-use lib.ListN.{take}
+use lib.ListN.{length, take}
 use Rattle.base.specs.declared.refusals.Refusal.{Refusal}
 use Rattle.base.specs.declared.refusals.Refusal.the-variants as refusal
 use Rattle.base.specs.RefusalNumbers.{refusalNumber}
 use Rattle.capture.specs.Layout.{configOf, pixelCount}
-use Rattle.controller.specs.World.{World, Buffers, buffers}
+use Rattle.controller.specs.declared.Uc8253.{Uc8253}
+use Rattle.controller.specs.World.{World, Buffers, buffers, world}
 use Rattle.vcd.specs.declared.judging.Judged.{Judged}
 use Rattle.vcd.specs.declared.judging.Judged.the-variants as judge
 use Rattle.vcd.specs.Dump.{dumpRefused}
@@ -53,3 +54,11 @@ abbrev pub fitted : List ℕ → Buffers → Buffers
 fitted config b =
     let n = panelSize config in
     buffers (b .old) (b .new) (take n (b .states)) (take n (b .numbers)) (take n (b .picture)) (b .rows)
+
+-- a job leaves of what is lent what some configuration and some dump come to; a configuration of a wrong length leaves all as it was
+pub record Ran (r : Came) (most longest : ℕ) (b u : Buffers) : Type 0 where
+  pub config : List ℕ
+  pub dump : List ℕ
+  pub chip : Uc8253
+  pub came-to : CameTo r config dump most longest (fitted config b) (world chip (fitted config u))
+  pub kept : (length config ≡ 312 → ⊥) → u ≡ b

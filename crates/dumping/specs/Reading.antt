@@ -69,6 +69,10 @@ pub record Begins (chip : Uc8253) (q : Gone) : Type 0 where
 abbrev pub ended : Course → Gone → Gone
 ended x g = record { chip = g .chip; reader = g .reader; lines = g .lines; told = g .told; course = x }
 
+-- the input ended with a chunk, unless what follows does not count
+unfoldable pub lastOf : Bool → Gone → Gone
+lastOf over g = pick over (pick (isOn (g .course)) (ended course.Whole g) g) g
+
 -- the reader stands behind all bytes that were read, whose calls began at the world w
 abbrev pub isStopped : Course → Bool
 isStopped course.On = false

@@ -1,6 +1,8 @@
 // One job: the panel of a configuration after a dump.
 ghost use mathlib.Core.Path.{_≡_};
 ghost use lib.ListN.{length};
+ghost use Rattle.controller.specs.Lent.{before, after};
+ghost use Rattle.dumping.specs.Played.{Ran};
 use crate::playing::Came;
 use crate::playing::play;
 use crate::telling::bad_config;
@@ -137,8 +139,10 @@ fn with_dump(
     numbers: &mut [u8],
     picture: &mut [u8],
     rows: &mut [u64],
-)
+) -> Came
     requires { ⌜ length (now config) ≡ 312 ⌝ }
+    ensures { λ r. ⌜ Ran r (length (now (kept .exit))) (length (now (word .exit)))
+        (before old new states numbers picture rows) (after old new states numbers picture rows) ⌝ }
 {
     let mut text = [0u8; 256];
     let d = play(
@@ -174,6 +178,7 @@ fn with_dump(
         shown,
         rows,
     );
+    came
 }
 
 // What keeps the declarations is lent here.
@@ -192,8 +197,10 @@ fn with_kept(
     numbers: &mut [u8],
     picture: &mut [u8],
     rows: &mut [u64],
-)
+) -> Came
     requires { ⌜ length (now config) ≡ 312 ⌝ }
+    ensures { λ r. ⌜ Ran r 1_048_576 (length (now (word .exit)))
+        (before old new states numbers picture rows) (after old new states numbers picture rows) ⌝ }
 {
     let mut kept = [0u8; KEPT];
     with_dump(
@@ -212,7 +219,7 @@ fn with_kept(
         numbers,
         picture,
         rows,
-    );
+    )
 }
 
 // A configuration of the right length.
@@ -230,15 +237,17 @@ fn with_config(
     numbers: &mut [u8],
     picture: &mut [u8],
     rows: &mut [u64],
-)
+) -> Came
     requires { ⌜ length (now config) ≡ 312 ⌝ }
+    ensures { λ r. ⌜ Ran r 1_048_576 (length (now (word .exit)))
+        (before old new states numbers picture rows) (after old new states numbers picture rows) ⌝ }
 {
     let fd = open(name);
     if fd < 0 {
         os::fail(name);
-        return;
+        return Came::Unread;
     }
-    with_kept(
+    let came = with_kept(
         config_name,
         name,
         config,
@@ -255,10 +264,11 @@ fn with_config(
         rows,
     );
     close(name, fd);
+    came
 }
 
 // The configuration and the dump of these names; `-` is standard input. A configuration of a wrong
-// length is turned back before the dump is read.
+// length is turned back before the dump is read. What they came to is said, and handed back.
 pub fn run(
     config_name: &[u8],
     name: &[u8],
@@ -272,14 +282,17 @@ pub fn run(
     numbers: &mut [u8],
     picture: &mut [u8],
     rows: &mut [u64],
-) {
+) -> Came
+    ensures { λ r. ⌜ Ran r 1_048_576 (length (now (word .exit)))
+        (before old new states numbers picture rows) (after old new states numbers picture rows) ⌝ }
+{
     let mut config = [0u8; CONFIG_ROOM];
     let got = files::read(config_name, &mut config);
     match got {
         Got::Bytes(n, bytes) => {
             let c = front(&config, n);
             if c.len() == CONFIG {
-                with_config(
+                return with_config(
                     config_name,
                     name,
                     c,
@@ -294,11 +307,11 @@ pub fn run(
                     picture,
                     rows,
                 );
-                return;
             }
             refuse(Refusal::BrokenCapture);
             no_config(config_name, bytes);
+            Came::Judged(Refusal::BrokenCapture)
         }
-        Got::Failed => {}
+        Got::Failed => Came::Unread,
     }
 }

@@ -12,3 +12,4 @@ mod writing;
 
 pub use job::run;
 pub use output::Form;
+pub use playing::Came;

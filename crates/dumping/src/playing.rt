@@ -16,13 +16,13 @@ use vcd_playing::make;
 use vcd_reading::Ending;
 
 // What a configuration and a dump came to.
-pub(crate) enum Came {
+pub enum Came {
     // By the first refusal that is met, if any is.
     Judged(Refusal),
     // A limit of the program: the dump was not read to its end.
     HeadTooLong,
     WordTooLong,
-    // A read failed.
+    // One of the two could not be read.
     Unread,
 }
 

@@ -10,7 +10,9 @@ use crate::finding::in_piece;
 use crate::pieces::is_settled;
 use crate::pieces::piece;
 use controller::Uc8253;
+use input::Input;
 use input::front;
+use input::read_all;
 use vcd::Judged;
 use vcd_reading::Ending;
 use vcd_reading::Reader;
@@ -201,7 +203,22 @@ fn ended(g: Gone, course: Course) -> Gone
     }
 }
 
-// What one read gives.
+// After a chunk with which the input ended, if it did.
+fn last_of(g: Gone, over: bool) -> Gone
+    ensures { λ q. ⌜ q ≡ rule.lastOf over g ⌝ }
+{
+    if !over {
+        return g;
+    }
+    let course = g.course;
+    if goes_on(course) {
+        return ended(g, Course::Whole);
+    }
+    g
+}
+
+// As much as there is space for. The chunk is filled before it is looked at: as long as the
+// declarations go on they are read again with each.
 fn next_chunk(
     g: Gone,
     fd: i32,
@@ -220,27 +237,29 @@ fn next_chunk(
     ensures { λ q. ⌜ ((w : World) → rule.Stood g (now (kept .entry)) (now (word .entry)) w (world (g .chip) (before old new states numbers picture rows))
         → rule.Stood q (now (kept .exit)) (now (word .exit)) w (world (q .chip) (after old new states numbers picture rows))) ⌝ }
 {
-    let got = libc::read(fd, chunk);
-    if got < 0 {
-        return ended(g, Course::Unread);
+    let got = read_all(fd, chunk);
+    match got {
+        Input::Bytes(n) => {
+            if n == 0 {
+                return ended(g, Course::Whole);
+            }
+            let q = play_chunk(
+                g,
+                front(chunk, n),
+                text,
+                kept,
+                word,
+                old,
+                new,
+                states,
+                numbers,
+                picture,
+                rows,
+            );
+            last_of(q, n < chunk.len())
+        }
+        Input::Failed => ended(g, Course::Unread),
     }
-    let n = io::count(got, chunk);
-    if n == 0 {
-        return ended(g, Course::Whole);
-    }
-    play_chunk(
-        g,
-        front(chunk, n),
-        text,
-        kept,
-        word,
-        old,
-        new,
-        states,
-        numbers,
-        picture,
-        rows,
-    )
 }
 
 // Chunk after chunk. Nothing says that an input ends, so the turns are counted.

@@ -16,7 +16,6 @@ use Rattle.vcd_declarations.specs.Declarations as declare
 use Rattle.vcd_declarations.specs.Codes.{codeIn, fiveIn}
 use Rattle.vcd_declarations.specs.Begun.{Begins}
 use Rattle.vcd_declarations.proofs.HeadLaws.{empty-is}
-use Rattle.vcd_declarations.proofs.OnlyFive.{Only, only-five}
 use Rattle.vcd_simulation.specs.declared.body.Body.{Body}
 use Rattle.vcd_simulation.specs.Simulation.{Codes, Went, begun, wordsDone, isOver}
 use Rattle.vcd_simulation.specs.Feed.{codesBy}
@@ -27,12 +26,7 @@ use Rattle.vcd.specs.Judging.{bodyAfter, isNone, anyNone, malformedBy, u
 module _ (dump : List ℕ) (b : Begun) (g : Begins dump b) where
   -- the codes by their places are those that the declarations give
   pub same-codes : Same (codesBy dump (b .head)) (codesIn dump)
-  same-codes = record { five-same = g .codes-are; all-same = λ code n. by-cases (b .head .bad) (λ e. rw e) (λ e. rw e (few e code n)) }
-    where
-      few : b .head .bad ≡ false → (code : List ℕ) → alike code [] ≡ false → among (fiveIn dump (b .head .codes)) code ≡ among (headIn dump .all) code
-      few e code n =
-          ap (λ (c : List (List ℕ)). among c code) (g .codes-are)
-          ∙ only-five (words dump) .only (sym (g .bad-is) ∙ e) code n
+  same-codes = record { five-same = g .codes-are; all-same = g .all-are }
 
   pub simulated-is : wordsDone (codesBy dump (b .head)) (words (drop (b .next) dump)) begun ≡ simulated dump
   unfolding simulated

@@ -6,7 +6,8 @@ use Prim.Native.Nat.{ℕ, _-_, _≤_, _<_}
 use native.Mathlib.Omega.{arith}
 use lib.ListN.{length, take, drop, drop-of-length-le}
 use Rattle.base.specs.Pick.{pick}
-use Rattle.vcd_words.specs.Words.{words, closed, opened}
+use Rattle.base.proofs.Cases.{by-cases}
+use Rattle.vcd_words.specs.Words.{words, closed, opened, among}
 use Rattle.vcd_words.specs.Places.{part}
 use Rattle.vcd_words.specs.declared.Span.{Span}
 use Rattle.vcd_words.proofs.SpanLaws.{Next}
@@ -14,7 +15,7 @@ use Rattle.vcd_declarations.specs.declared.head.Head as place
 use Rattle.vcd_declarations.specs.declared.head.Begun.{Begun}
 use Rattle.vcd_declarations.specs.declared.commands.Keyword.{Keyword}
 use Rattle.vcd_declarations.specs.Declarations.{Head, Cut, keywordOf, begins, isLast, oneMore, cutFrom, cut, blank, declaresBy, declares, declaredFrom, headOf}
-use Rattle.vcd_declarations.specs.Begun.{Begins}
+use Rattle.vcd_declarations.specs.Begun.{allBy, Begins}
 use Rattle.vcd_declarations.specs.InnerEnd.{hasEnd, before, past, EndAt}
 use Rattle.vcd_declarations.specs.InnerHead.{Tells, blankHead}
 use Rattle.vcd_declarations.proofs.HeadLaws.{blank-tells}
@@ -39,20 +40,31 @@ going-start bytes = record {
   inside = omega arith;
 }
 
+-- all of them were told
+told-all : (bytes : List ℕ) (h : place.Head) (s : Head) → Tells bytes h s → s ≡ headOf (words bytes) → (ended : Bool) (next : ℕ) → ended ≡ cut (words bytes) .ended
+    → words (drop next bytes) ≡ cut (words bytes) .rest → next ≤ length bytes → Begins bytes (record { head = h; ended = ended; next = next })
+unfolding allBy
+told-all bytes h s t all ended next over rest inside = record {
+  broken-is = t .broken-is ∙ ap (λ (x : Head). x .broken) all;
+  scaled-is = t .scaled-is ∙ ap (λ (x : Head). x .scaled) all;
+  bad-is = t .bad-is ∙ ap (λ (x : Head). x .bad) all;
+  codes-are = t .codes-are ∙ ap (λ (x : Head). x .codes) all;
+  codes-in = t .codes-in;
+  all-are = λ code n.
+      by-cases (h .further .full) (λ f. rw f) (λ f. rw f (t .all-are f code n ∙ ap (λ (x : Head). among (x .all) code) all));
+  further-in = t .further-in;
+  ended-is = over;
+  rest-is = rest;
+  next-in = inside;
+}
+
 module _ (bytes : List ℕ) (h : place.Head) (at : ℕ) (g : Going bytes h at) where
   -- they are over at a place from which the words are those that are left
   ends-with : (c : Cut) (next : ℕ) → cut (words (drop at bytes)) ≡ c → c .declarations ≡ [] → words (drop next bytes) ≡ c .rest → next ≤ length bytes
       → Begins bytes (record { head = h; ended = c .ended; next = next })
-  ends-with c next e none rest inside = record {
-    broken-is = g .tells .broken-is ∙ ap (λ (s : Head). s .broken) all;
-    scaled-is = g .tells .scaled-is ∙ ap (λ (s : Head). s .scaled) all;
-    bad-is = g .tells .bad-is ∙ ap (λ (s : Head). s .bad) all;
-    codes-are = g .tells .codes-are ∙ ap (λ (s : Head). s .codes) all;
-    codes-in = g .tells .codes-in;
-    ended-is = sym (ap (λ (d : Cut). d .ended) e) ∙ g .ended-is;
-    rest-is = rest ∙ sym (ap (λ (d : Cut). d .rest) e) ∙ g .rest-is;
-    next-in = inside;
-  }
+  ends-with c next e none rest inside =
+      told-all bytes h (g .so-far) (g .tells) all (c .ended) next (sym (ap (λ (d : Cut). d .ended) e) ∙ g .ended-is)
+      (rest ∙ sym (ap (λ (d : Cut). d .rest) e) ∙ g .rest-is) inside
     where
       all : g .so-far ≡ headOf (words bytes)
       all = sym (ap (declaredFrom (g .so-far)) (ap (λ (d : Cut). d .declarations) e ∙ none)) ∙ g .head-is
@@ -95,16 +107,9 @@ module _ (bytes : List ℕ) (h : place.Head) (at : ℕ) (g : Going bytes h at) w
 
         pub last-one : isLast (keywordOf w) ≡ true → Begins bytes (record { head = h′; ended = true; next = e .to })
         unfolding left
-        last-one f = record {
-          broken-is = told .broken-is ∙ ap (λ (d : Head). d .broken) all;
-          scaled-is = told .scaled-is ∙ ap (λ (d : Head). d .scaled) all;
-          bad-is = told .bad-is ∙ ap (λ (d : Head). d .bad) all;
-          codes-are = told .codes-are ∙ ap (λ (d : Head). d .codes) all;
-          codes-in = told .codes-in;
-          ended-is = sym (ap (λ (d : Cut). d .ended) here) ∙ g .ended-is;
-          rest-is = sym (ap (λ (d : Cut). d .rest) here) ∙ g .rest-is;
-          next-in = a .inside;
-        }
+        last-one f =
+            told-all bytes h′ next-head told all true (e .to) (sym (ap (λ (d : Cut). d .ended) here) ∙ g .ended-is)
+            (sym (ap (λ (d : Cut). d .rest) here) ∙ g .rest-is) (a .inside)
           where
             here : left (over ws)
             here = one-here bytes at s n b e a l ∙ rw f

@@ -1,7 +1,7 @@
 -- What the places tell stays what the declarations say, one declaration after the other.
 use mathlib.Core.Path.{_≡_, refl, sym, ap, _∙_}
 use mathlib.Core.Bool.{Bool, true, false, _||_, not}
-use mathlib.Core.List.{List, [], _∷_}
+use mathlib.Core.List.{List, [], _∷_, _++_}
 use Prim.Native.Nat.{ℕ, zero, suc, _+_, _-_, _≤_, _<_}
 use native.Mathlib.Omega.{arith}
 use borrow.Author.Tests.{eq-eqb, ne-eqb, lt-ltb, le-ltb, eqb-true, eqb-false}
@@ -10,15 +10,16 @@ use lib.ListN.{length, getD, set, take, drop, length-take, length-drop}
 use lib.Seq.{take-take, drop-drop}
 use Rattle.base.specs.Pick.{pick}
 use Rattle.base.proofs.Cases.{by-cases}
-use Rattle.vcd_words.specs.Words.{alike, words}
+use Rattle.vcd_words.specs.Words.{alike, among, words}
 use Rattle.vcd_words.specs.Places.{part}
 use Rattle.vcd_words.specs.declared.Span.{Span}
-use Rattle.vcd_values.specs.Names.{otherSignal, noName}
 use Rattle.vcd_declarations.specs.declared.codes.Codes.{Codes}
+use Rattle.vcd_declarations.specs.declared.codes.Further.{Further}
 use Rattle.vcd_declarations.specs.declared.head.Head as place
-use Rattle.vcd_declarations.specs.Codes.{codeIn, fiveIn, Within, AllWithin}
-use Rattle.vcd_declarations.specs.Declarations.{Head, blank, holding, scale, declare, named, isNano}
-use Rattle.vcd_declarations.specs.InnerHead.{Tells, nowhere, blankHead, holdingHead, scaleHead, placeOf, withPlace, moved, declareHead, namedHead}
+use Rattle.vcd_declarations.specs.Codes.{codeIn, fiveIn, furtherIn, placedIn, Within, AllWithin, FurtherWithin}
+use Rattle.vcd_declarations.specs.Declarations.{Head, blank, holding, scale, declare, isNano}
+use Rattle.vcd_declarations.specs.InnerHead.{Tells, nowhere, blankHead, holdingHead, scaleHead, placeOf, withPlace, moved, shifted, added, declareHead}
+use Rattle.vcd_declarations.proofs.PlacedLaws.{or-none, not-none, alike-is, put-in, put-before, none-last}
 
 pub above-three : (n : ℕ) → (n ≡ 0 → ⊥) → (n ≡ 1 → ⊥) → (n ≡ 2 → ⊥) → (n ≡ 3 → ⊥) → 3 < n
 above-three zero a b c d = absurd (a refl)
@@ -38,6 +39,17 @@ blank-tells bytes = record {
   bad-is = refl;
   codes-are = refl;
   codes-in = let w = at-start (length bytes) in record { cs-in = w; dc-in = w; clk-in = w; mosi-in = w; rst-in = w };
+  all-are = λ f code n. rw n;
+  further-in = let w = at-start (length bytes) in record {
+    first-in = w;
+    second-in = w;
+    third-in = w;
+    fourth-in = w;
+    fifth-in = w;
+    sixth-in = w;
+    seventh-in = w;
+    eighth-in = w;
+  };
 }
 
 module _ (bytes : List ℕ) (h : place.Head) (s : Head) (t : Tells bytes h s) where
@@ -48,6 +60,8 @@ module _ (bytes : List ℕ) (h : place.Head) (s : Head) (t : Tells bytes h s) wh
     bad-is = t .bad-is;
     codes-are = t .codes-are;
     codes-in = t .codes-in;
+    all-are = t .all-are;
+    further-in = t .further-in;
   }
 
   pub scale-tells : (ws : List (List ℕ)) → Tells bytes (scaleHead (isNano ws) h) (scale ws s)
@@ -57,6 +71,8 @@ module _ (bytes : List ℕ) (h : place.Head) (s : Head) (t : Tells bytes h s) wh
     bad-is = t .bad-is;
     codes-are = t .codes-are;
     codes-in = t .codes-in;
+    all-are = t .all-are;
+    further-in = t .further-in;
   }
 
 -- ---- a code of the five by its place
@@ -112,10 +128,66 @@ or-true : (b : Bool) → (b || true) ≡ true
 or-true true = refl
 or-true false = refl
 
-module _ (bytes : List ℕ) (h : place.Head) (s : Head) (t : Tells bytes h s) where
-  declare-tells : (signal : ℕ) → signal < 5 → (wide : Bool) (p : Span) → Within p (length bytes)
-      → Tells bytes (declareHead h signal wide p) (declare signal wide (codeIn bytes p) s)
-  declare-tells signal l wide p w =
+-- the first code of a signal, among all that have a place
+placed-at : (bytes : List ℕ) (c : Codes) (f : Further) (n : ℕ) → n < 5 → getD (placedIn bytes c f) n [] ≡ codeIn bytes (placeOf c n)
+placed-at bytes c f n h = below-five (λ k. getD (placedIn bytes c f) k [] ≡ codeIn bytes (placeOf c k)) refl refl refl refl refl n h
+
+placed-with : (bytes : List ℕ) (c : Codes) (f : Further) (p : Span) (n : ℕ) → n < 5
+    → placedIn bytes (withPlace c n p) f ≡ set (placedIn bytes c f) n (codeIn bytes p)
+placed-with bytes c f p n h =
+    below-five (λ k. placedIn bytes (withPlace c k p) f ≡ set (placedIn bytes c f) k (codeIn bytes p)) refl refl refl refl refl n h
+
+shifted-in : (f : Further) (p : Span) (size : ℕ) → FurtherWithin f size → Within p size → FurtherWithin (shifted f p) size
+shifted-in f p size a w = record {
+  first-in = w;
+  second-in = a .first-in;
+  third-in = a .second-in;
+  fourth-in = a .third-in;
+  fifth-in = a .fourth-in;
+  sixth-in = a .fifth-in;
+  seventh-in = a .sixth-in;
+  eighth-in = a .seventh-in;
+}
+
+module _ (bytes : List ℕ) (h : place.Head) (s : Head) (t : Tells bytes h s) (p : Span) (w : Within p (length bytes)) where
+  abbrev Placed : List (List ℕ) → Type 0
+  Placed l = (code : List ℕ) → alike code [] ≡ false → among l code ≡ pick (alike code (codeIn bytes p)) true (among (s .all) code)
+
+  -- the first of a signal
+  with-all : (signal : ℕ) → signal < 5 → eqb (placeOf (h .codes) signal .from) (placeOf (h .codes) signal .to) ≡ true → h .further .full ≡ false
+      → Placed (placedIn bytes (withPlace (h .codes) signal p) (h .further))
+  with-all signal l e full code n =
+      let empty = ap (λ (c : List ℕ). alike c []) (placed-at bytes (h .codes) (h .further) signal l)
+      ∙ empty-is bytes (placeOf (h .codes) signal) (place-in (h .codes) (length bytes) signal l (t .codes-in)) ∙ e in
+      ap (λ (c : List (List ℕ)). among c code) (placed-with bytes (h .codes) (h .further) p signal l)
+      ∙ put-in (placedIn bytes (h .codes) (h .further)) signal (codeIn bytes p) code (omega (arith, l)) empty n
+      ∙ ap (pick (alike code (codeIn bytes p)) true) (t .all-are full code n)
+
+  -- another one
+  abbrev seven : List (List ℕ)
+  seven = codeIn bytes (h .further .first) ∷ codeIn bytes (h .further .second) ∷ codeIn bytes (h .further .third) ∷ codeIn bytes (h .further .fourth) ∷ codeIn bytes (h .further .fifth) ∷ codeIn bytes (h .further .sixth) ∷ codeIn bytes (h .further .seventh) ∷ []
+
+  added-all : (placed : Bool) → placed ≡ among (placedIn bytes (h .codes) (h .further)) (codeIn bytes p) → added (h .further) placed p .full ≡ false
+      → Placed (placedIn bytes (h .codes) (added (h .further) placed p))
+  added-all true e full code n =
+      by-cases (alike code (codeIn bytes p))
+      (λ a. rw a (ap (among (placedIn bytes (h .codes) (h .further))) (alike-is code (codeIn bytes p) a) ∙ sym e))
+      (λ a. rw a (t .all-are full code n))
+  added-all false e full code n =
+      let last = h .further .eighth in
+      let parts = or-none (h .further .full) (not (eqb (last .from) (last .to))) full in
+      let empty = empty-is bytes last (t .further-in .eighth-in) ∙ not-none (eqb (last .from) (last .to)) (parts .1) in
+      put-before (fiveIn bytes (h .codes)) seven (codeIn bytes p) code
+      ∙ ap (pick (alike code (codeIn bytes p)) true)
+      (sym (none-last (fiveIn bytes (h .codes) ++ seven) (codeIn bytes last) code empty n) ∙ t .all-are (parts .0) code n)
+
+  added-in : (placed : Bool) → FurtherWithin (added (h .further) placed p) (length bytes)
+  added-in true = t .further-in
+  added-in false = shifted-in (h .further) p (length bytes) (t .further-in) w
+
+  pub declare-tells : (signal : ℕ) → signal < 5 → (wide placed : Bool) → placed ≡ among (placedIn bytes (h .codes) (h .further)) (codeIn bytes p)
+      → Tells bytes (declareHead h signal wide p placed) (declare signal wide (codeIn bytes p) s)
+  declare-tells signal l wide placed k =
       by-cases first
       (λ e. rw (had, e) (record {
         broken-is = t .broken-is;
@@ -123,6 +195,8 @@ module _ (bytes : List ℕ) (h : place.Head) (s : Head) (t : Tells bytes h s) wh
         bad-is = ap (λ (b : Bool). b || wide) (t .bad-is) ∙ ap (λ (b : Bool). s .bad || b) (sym (or-false wide));
         codes-are = codes-with bytes (h .codes) p signal l ∙ ap (λ (c : List (List ℕ)). set c signal (codeIn bytes p)) (t .codes-are);
         codes-in = with-in (h .codes) p (length bytes) signal l (t .codes-in) w;
+        all-are = with-all signal l e;
+        further-in = t .further-in;
       }))
       (λ e. rw (had, e) (record {
         broken-is = t .broken-is;
@@ -130,6 +204,8 @@ module _ (bytes : List ℕ) (h : place.Head) (s : Head) (t : Tells bytes h s) wh
         bad-is = sym (ap (λ (b : Bool). s .bad || b) (or-true wide) ∙ or-true (s .bad));
         codes-are = t .codes-are;
         codes-in = t .codes-in;
+        all-are = added-all placed k;
+        further-in = added-in placed;
       }))
     where
       first : Bool
@@ -139,15 +215,6 @@ module _ (bytes : List ℕ) (h : place.Head) (s : Head) (t : Tells bytes h s) wh
       had = ap (λ (c : List (List ℕ)). alike (getD c signal []) []) (sym (t .codes-are))
           ∙ ap (λ (c : List ℕ). alike c []) (code-at bytes (h .codes) signal l)
           ∙ empty-is bytes (placeOf (h .codes) signal) (place-in (h .codes) (length bytes) signal l (t .codes-in))
-
-  -- any signal: the code counts where it is one of the five
-  pub named-tells : (signal : ℕ) (wide : Bool) (p : Span) → Within p (length bytes) → signal < 5
-      → Tells bytes (namedHead h signal wide p) (named signal wide (codeIn bytes p) s)
-  named-tells signal wide p w l = rw (lt-ltb signal 5 l) (declare-tells signal l wide p w)
-
-  pub other-tells : (signal : ℕ) (wide wide′ : Bool) (p : Span) (code : List ℕ) → 5 ≤ signal
-      → Tells bytes (namedHead h signal wide p) (named signal wide′ code s)
-  other-tells signal wide wide′ p code l = rw (le-ltb signal 5 l) (holding-tells bytes h s t (not (eqb signal noName)))
 
 -- ---- a code of a part lies in the whole
 take-in : (a k n : ℕ) (l : List ℕ) → a + k ≤ n → take k (drop a (take n l)) ≡ take k (drop a l)

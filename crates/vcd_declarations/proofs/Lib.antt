@@ -1,3 +1,4 @@
+pub mod PlacedLaws
 pub mod HeadLaws
 pub mod VariableLaws
 pub mod EndLaws

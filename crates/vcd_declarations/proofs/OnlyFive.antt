@@ -1,6 +1,6 @@
 -- Where none of the five was declared twice or wide, every code of one of them is a first one.
 use mathlib.Core.Path.{_≡_, refl, sym, ap, _∙_}
-use mathlib.Core.Bool.{Bool, true, false, _||_, not, false≢true}
+use mathlib.Core.Bool.{Bool, true, false, _||_, not}
 use mathlib.Core.List.{List, [], _∷_}
 use Prim.Native.Nat.{ℕ, zero, suc, _<_}
 use native.Mathlib.Omega.{arith}
@@ -13,36 +13,12 @@ use Rattle.vcd_words.specs.Words.{alike, among}
 use Rattle.vcd_values.specs.Names.{otherSignal, noName}
 use Rattle.vcd_declarations.specs.declared.commands.Keyword.{Keyword}
 use Rattle.vcd_declarations.specs.declared.commands.Keyword.the-variants as key
+use Rattle.vcd_declarations.proofs.PlacedLaws.{put-in, or-none, not-none}
 use Rattle.vcd_declarations.specs.Declarations.{Head, cut, keywordOf, blank, declare, named, signalIn, wideIn, codeOf, variable, declaresBy, declares, declaredFrom, headOf}
 
 pub record Only (h : Head) : Type 0 where
   pub five : length (h .codes) ≡ 5
   pub only : h .bad ≡ false → (code : List ℕ) → alike code [] ≡ false → among (h .codes) code ≡ among (h .all) code
-
--- ---- a code put in an empty place
-turned : (s t : Bool) (r : Bool) → pick s true (pick t true r) ≡ pick t true (pick s true r)
-turned true true r = refl
-turned true false r = refl
-turned false true r = refl
-turned false false r = refl
-
-none-empty : (v code : List ℕ) → alike v [] ≡ true → alike code [] ≡ false → alike code v ≡ false
-none-empty [] code e f = f
-none-empty (x ∷ v) code e f = absurd (false≢true e)
-
-put-in : (l : List (List ℕ)) (i : ℕ) (c code : List ℕ) → i < length l → alike (getD l i []) [] ≡ true → alike code [] ≡ false
-    → among (set l i c) code ≡ pick (alike code c) true (among l code)
-put-in [] i c code h e f = absurd (omega (arith, h))
-put-in (v ∷ l) zero c code h e f = rw (none-empty v code e f)
-put-in (v ∷ l) (suc i) c code h e f = rw (put-in l i c code (omega (arith, h)) e f) (turned (alike code v) (alike code c) (among l code))
-
-or-none : (a b : Bool) → (a || b) ≡ false → (a ≡ false) × (b ≡ false)
-or-none true b e = absurd (false≢true (sym e))
-or-none false b e = (refl, e)
-
-not-none : (a : Bool) → not a ≡ false → a ≡ true
-not-none true e = refl
-not-none false e = absurd (false≢true (sym e))
 
 declare-only : (signal : ℕ) (wide : Bool) (code : List ℕ) (h : Head) → signal < 5 → Only h → Only (declare signal wide code h)
 declare-only signal wide code h l o = record {

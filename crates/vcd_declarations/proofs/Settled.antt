@@ -9,14 +9,15 @@ use lib.ListN.{length, take, drop, length-append, length-drop, take-append-drop}
 use lib.Seq.{take-append-le, drop-append-le}
 use Rattle.base.specs.Pick.{pick}
 use Rattle.base.proofs.Cases.{by-cases}
-use Rattle.vcd_words.specs.Words.{shut, closed, opened, words}
+use Rattle.vcd_words.specs.Words.{shut, closed, opened, words, among}
 use Rattle.vcd_words.specs.declared.Span.{Span}
 use Rattle.vcd_words.proofs.Cutting.{words-cut, opened-late}
 use Rattle.vcd_declarations.specs.declared.codes.Codes.{Codes}
+use Rattle.vcd_declarations.specs.declared.codes.Further.{Further}
 use Rattle.vcd_declarations.specs.declared.head.Begun.{Begun}
-use Rattle.vcd_declarations.specs.Codes.{codeIn, fiveIn, Within, AllWithin}
+use Rattle.vcd_declarations.specs.Codes.{codeIn, fiveIn, furtherIn, placedIn, Within, AllWithin, FurtherWithin}
 use Rattle.vcd_declarations.specs.Declarations.{Head, Cut, keywordOf, begins, isLast, isEnd, oneMore, cutFrom, cut, blank, declaredFrom, headOf}
-use Rattle.vcd_declarations.specs.Begun.{Begins}
+use Rattle.vcd_declarations.specs.Begun.{allBy, Begins}
 use Rattle.vcd_declarations.proofs.EndLaws.{cancel}
 use Rattle.vcd_declarations.proofs.CutLaws.{over}
 
@@ -36,17 +37,42 @@ settled-five h more c a =
       code-more h more (c .rst) (a .rst-in),
     )
 
+settled-further : (h more : List ℕ) (f : Further) → FurtherWithin f (length h) → furtherIn (h ++ more) f ≡ furtherIn h f
+settled-further h more f a =
+    rw (
+      code-more h more (f .first) (a .first-in),
+      code-more h more (f .second) (a .second-in),
+      code-more h more (f .third) (a .third-in),
+      code-more h more (f .fourth) (a .fourth-in),
+      code-more h more (f .fifth) (a .fifth-in),
+      code-more h more (f .sixth) (a .sixth-in),
+      code-more h more (f .seventh) (a .seventh-in),
+      code-more h more (f .eighth) (a .eighth-in),
+    )
+
+wider : (h more : List ℕ) (s : Span) → Within s (length h) → Within s (length (h ++ more))
+wider h more s w = record { ordered = w .ordered; inside = omega (arith, w .inside, length-append h more) }
+
 all-more : (h more : List ℕ) (c : Codes) → AllWithin c (length h) → AllWithin c (length (h ++ more))
 all-more h more c a = record {
-  cs-in = wider (a .cs-in);
-  dc-in = wider (a .dc-in);
-  clk-in = wider (a .clk-in);
-  mosi-in = wider (a .mosi-in);
-  rst-in = wider (a .rst-in);
+  cs-in = wider h more (c .cs) (a .cs-in);
+  dc-in = wider h more (c .dc) (a .dc-in);
+  clk-in = wider h more (c .clk) (a .clk-in);
+  mosi-in = wider h more (c .mosi) (a .mosi-in);
+  rst-in = wider h more (c .rst) (a .rst-in);
 }
-  where
-    wider : {s : Span} → Within s (length h) → Within s (length (h ++ more))
-    wider w = record { ordered = w .ordered; inside = omega (arith, w .inside, length-append h more) }
+
+further-more : (h more : List ℕ) (f : Further) → FurtherWithin f (length h) → FurtherWithin f (length (h ++ more))
+further-more h more f a = record {
+  first-in = wider h more (f .first) (a .first-in);
+  second-in = wider h more (f .second) (a .second-in);
+  third-in = wider h more (f .third) (a .third-in);
+  fourth-in = wider h more (f .fourth) (a .fourth-in);
+  fifth-in = wider h more (f .fifth) (a .fifth-in);
+  sixth-in = wider h more (f .sixth) (a .sixth-in);
+  seventh-in = wider h more (f .seventh) (a .seventh-in);
+  eighth-in = wider h more (f .eighth) (a .eighth-in);
+}
 
 -- ---- no more words are left than there were
 rest-most : (d ws : List (List ℕ)) → length (cutFrom d ws .rest) ≤ length ws
@@ -139,6 +165,13 @@ module _ (h : List ℕ) (b : Begun) (g : Begins h b) (k : 0 < length (closed (dr
   unfolding headOf
   settled-head = ap (declaredFrom blank) (cuts .declared)
 
+  pub settled-all : allBy (h ++ more) (b .head) ≡ allBy h (b .head)
+  unfolding allBy
+  settled-all =
+      ap (λ (l : List (List ℕ)). pick (b .head .further .full) l (placedIn (h ++ more) (b .head .codes) (b .head .further))) (ap (λ (d : Head). d .all) settled-head)
+      ∙ ap (λ (l : List (List ℕ)). pick (b .head .further .full) (headOf (words h) .all) (l ++ furtherIn (h ++ more) (b .head .further))) (settled-five h more (b .head .codes) (g .codes-in))
+      ∙ ap (λ (l : List (List ℕ)). pick (b .head .further .full) (headOf (words h) .all) (fiveIn h (b .head .codes) ++ l)) (settled-further h more (b .head .further) (g .further-in))
+
   -- reading the first bytes is reading the dump
   pub settled : Begins (h ++ more) b
   settled = record {
@@ -147,6 +180,9 @@ module _ (h : List ℕ) (b : Begun) (g : Begins h b) (k : 0 < length (closed (dr
     bad-is = g .bad-is ∙ ap (λ (d : Head). d .bad) (sym settled-head);
     codes-are = settled-five h more (b .head .codes) (g .codes-in) ∙ g .codes-are ∙ ap (λ (d : Head). d .codes) (sym settled-head);
     codes-in = all-more h more (b .head .codes) (g .codes-in);
+    all-are = λ code n.
+        ap (λ (l : List (List ℕ)). among l code) settled-all ∙ g .all-are code n ∙ ap (λ (d : Head). among (d .all) code) (sym settled-head);
+    further-in = further-more h more (b .head .further) (g .further-in);
     ended-is = g .ended-is ∙ sym (cuts .ended-is);
     rest-is = rest-more;
     next-in = omega (arith, g .next-in, length-append h more);

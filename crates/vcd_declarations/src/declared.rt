@@ -5,11 +5,14 @@ ghost use Rattle.vcd_words.specs.Words.{words, among};
 ghost use Rattle.vcd_words.specs.Places.{part};
 ghost use Rattle.vcd_declarations.specs.Codes.{Within};
 ghost use Rattle.vcd_declarations.specs.Declarations as rule;
+ghost use Rattle.vcd_declarations.specs.Begun.{allBy};
 ghost use Rattle.vcd_declarations.specs.InnerDeclared.{declaresCode};
+use crate::codes::is_placed;
 use crate::commands::Keyword;
 use crate::commands::begins;
 use crate::commands::is_last;
 use crate::commands::sorted;
+use crate::head::Head;
 use crate::head::find_end;
 use crate::variable::varied;
 use vcd_values::OTHER;
@@ -44,7 +47,8 @@ fn has_code(k: Keyword, text: &[u8], code: &[u8]) -> bool
     }
 }
 
-pub fn is_declared(bytes: &[u8], code: &[u8]) -> bool
+// By all declarations.
+fn is_declared(bytes: &[u8], code: &[u8]) -> bool
     ensures { λ r. ⌜ r ≡ among (rule.headOf (words (now (bytes .entry))) .all) (now (code .entry)) ⌝ }
 {
     let mut at: usize = 0;
@@ -71,4 +75,16 @@ pub fn is_declared(bytes: &[u8], code: &[u8]) -> bool
         }
     }
     false
+}
+
+// By the places of a head; where it has not all of them, by the declarations.
+pub fn is_known(bytes: &[u8], h: Head, code: &[u8]) -> bool
+    ensures { λ r. ⌜ r ≡ among (allBy (now (bytes .entry)) h) (now (code .entry)) ⌝ }
+{
+    let codes = h.codes;
+    let further = h.further;
+    if further.full {
+        return is_declared(bytes, code);
+    }
+    is_placed(bytes, codes, further, code)
 }

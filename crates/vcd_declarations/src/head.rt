@@ -11,6 +11,8 @@ ghost use Rattle.vcd_declarations.specs.Declarations as rule;
 ghost use Rattle.vcd_declarations.specs.InnerEnd.{EndAt};
 ghost use Rattle.vcd_declarations.specs.InnerHead as inner;
 use crate::codes::Codes;
+use crate::codes::Further;
+use crate::codes::is_placed;
 use crate::commands::Keyword;
 use crate::commands::begins;
 use crate::commands::is_bare;
@@ -39,6 +41,8 @@ pub struct Head {
     pub bad: bool,
     // The first code of each.
     pub codes: Codes,
+    // The others.
+    pub further: Further,
 }
 
 // What the declarations say, whether each of them has its end, and where they are over.
@@ -60,11 +64,23 @@ fn blank() -> Head
         mosi: none,
         rst: none,
     };
+    let further = Further {
+        first: none,
+        second: none,
+        third: none,
+        fourth: none,
+        fifth: none,
+        sixth: none,
+        seventh: none,
+        eighth: none,
+        full: false,
+    };
     Head {
         broken: false,
         scaled: false,
         bad: false,
         codes,
+        further,
     }
 }
 
@@ -82,11 +98,13 @@ fn holding(right: bool, h: Head) -> Head
     ensures { λ r. ⌜ r ≡ inner.holdingHead right h ⌝ }
 {
     let codes = h.codes;
+    let further = h.further;
     Head {
         broken: either(h.broken, !right),
         scaled: h.scaled,
         bad: h.bad,
         codes,
+        further,
     }
 }
 
@@ -94,11 +112,13 @@ fn scale(right: bool, h: Head) -> Head
     ensures { λ r. ⌜ r ≡ inner.scaleHead right h ⌝ }
 {
     let codes = h.codes;
+    let further = h.further;
     Head {
         broken: either(h.broken, !right),
         scaled: true,
         bad: h.bad,
         codes,
+        further,
     }
 }
 
@@ -161,11 +181,47 @@ fn with_code(c: Codes, signal: u8, code: Span) -> Codes
     }
 }
 
-// One of the five.
-fn declare(h: Head, signal: u8, wide: bool, code: Span) -> Head
-    ensures { λ r. ⌜ r ≡ inner.declareHead h signal wide code ⌝ }
+// One code more. The last place is lost, so there must be none in it.
+fn shifted(f: Further, code: Span) -> Further
+    ensures { λ r. ⌜ r ≡ inner.shifted f code ⌝ }
+{
+    let first = f.first;
+    let second = f.second;
+    let third = f.third;
+    let fourth = f.fourth;
+    let fifth = f.fifth;
+    let sixth = f.sixth;
+    let seventh = f.seventh;
+    let eighth = f.eighth;
+    Further {
+        first: code,
+        second: first,
+        third: second,
+        fourth: third,
+        fifth: fourth,
+        sixth: fifth,
+        seventh: sixth,
+        eighth: seventh,
+        full: either(f.full, eighth.from != eighth.to),
+    }
+}
+
+// A code that is there already, or one more.
+fn added(f: Further, placed: bool, code: Span) -> Further
+    ensures { λ r. ⌜ r ≡ inner.added f placed code ⌝ }
+{
+    if placed {
+        return f;
+    }
+    shifted(f, code)
+}
+
+// One of the five, with a code that has a place already or not.
+fn declare(h: Head, signal: u8, wide: bool, code: Span, placed: bool) -> Head
+    ensures { λ r. ⌜ r ≡ inner.declareHead h signal wide code placed ⌝ }
 {
     let codes = h.codes;
+    let further = h.further;
     let had = code_of(codes, signal);
     if had.from == had.to {
         let with = with_code(codes, signal, code);
@@ -174,24 +230,17 @@ fn declare(h: Head, signal: u8, wide: bool, code: Span) -> Head
             scaled: h.scaled,
             bad: either(h.bad, wide),
             codes: with,
+            further,
         };
     }
+    let more = added(further, placed, code);
     Head {
         broken: h.broken,
         scaled: h.scaled,
         bad: true,
         codes,
+        further: more,
     }
-}
-
-// Any signal.
-fn named(h: Head, signal: u8, wide: bool, code: Span) -> Head
-    ensures { λ r. ⌜ r ≡ inner.namedHead h signal wide code ⌝ }
-{
-    if signal < OTHER {
-        return declare(h, signal, wide, code);
-    }
-    holding(signal != NO_NAME, h)
 }
 
 // A place so many bytes further on.
@@ -216,9 +265,15 @@ fn declares_var(h: Head, bytes: &[u8], from: usize, to: usize) -> Head
     let signal = v.signal;
     let code = v.code;
     if signal < OTHER {
-        return named(h, signal, v.wide, moved(from, code));
+        let place = moved(from, code);
+        let p0 = place.from;
+        let p1 = place.to;
+        let codes = h.codes;
+        let further = h.further;
+        let placed = is_placed(bytes, codes, further, &bytes[p0..p1]);
+        return declare(h, signal, v.wide, place, placed);
     }
-    named(h, signal, v.wide, code)
+    holding(signal != NO_NAME, h)
 }
 
 // One declaration: its keyword, and the places of the words behind it.

@@ -7,8 +7,9 @@ mod head;
 mod variable;
 
 pub use codes::Codes;
+pub use codes::Further;
 pub use commands::is_end;
-pub use declared::is_declared;
+pub use declared::is_known;
 pub use head::Begun;
 pub use head::Head;
 pub use head::declarations;

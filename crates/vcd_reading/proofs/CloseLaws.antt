@@ -9,7 +9,8 @@ use Rattle.vcd_words.specs.Words.{closed, opened, words}
 use Rattle.vcd_words.proofs.Cutting.{words-cut}
 use Rattle.vcd_declarations.specs.declared.head.Begun.{Begun}
 use Rattle.vcd_declarations.specs.Begun.{Begins}
-use Rattle.vcd_declarations.proofs.Settled.{settled-five, settled-head, settled}
+use Rattle.vcd_declarations.proofs.Settled.{settled}
+use Rattle.vcd_simulation.proofs.SameCodes.{codes-settled}
 use Rattle.vcd_simulation.specs.declared.body.Body.{Body}
 use Rattle.vcd_simulation.specs.Simulation.{Codes, Went, begun, wordsDone}
 use Rattle.vcd_simulation.specs.Feed.{codesBy}
@@ -78,11 +79,7 @@ module _ (d : List ℕ) (r : Reader) (kept word : List ℕ) (w v : World) (g : P
   whole-begins = rw (g .dump-is) (settled front (r .begun) (g .begins) (g .settled) (g .later))
 
   same-codes : codesBy front (r .begun .head) ≡ codesBy d (r .begun .head)
-  same-codes = rw (
-    g .dump-is,
-    settled-head front (r .begun) (g .begins) (g .settled) (g .later),
-    settled-five front (g .later) (r .begun .head .codes) (g .begins .codes-in),
-  )
+  same-codes = rw (g .dump-is) (sym (codes-settled front (r .begun) (g .begins) (g .settled) (g .later)))
 
   pub played-closes : (c : Closed) (u : World) → ClosesWords (codesBy front (r .begun .head)) (r .begun) (take (r .carried) word) 0 (r .body) c v u
       → (c .ending ≡ ending.Judged (judged d)) × (u ≡ calls (dumpEvents d) w)

@@ -18,6 +18,7 @@ use Rattle.vcd_words.proofs.SpanLaws.{Next}
 use Rattle.vcd_declarations.specs.declared.codes.Codes as place
 use Rattle.vcd_declarations.specs.declared.head.Head.{Head}
 use Rattle.vcd_declarations.specs.Codes.{codeIn, fiveIn, Within, AllWithin}
+use Rattle.vcd_declarations.specs.Begun.{allBy}
 use Rattle.vcd_simulation.specs.declared.body.Body.{Body}
 use Rattle.vcd_simulation.specs.declared.word.Stepped.{Stepped}
 use Rattle.vcd_simulation.specs.declared.feeding.Fed.{Fed}
@@ -72,6 +73,7 @@ head-in n h = let c = h .codes in
     record { cs-in = inside-in n (c .cs); dc-in = inside-in n (c .dc); clk-in = inside-in n (c .clk); mosi-in = inside-in n (c .mosi); rst-in = inside-in n (c .rst) }
 
 pub head-same : (bytes : List ℕ) (h : Head) → codesBy bytes (headInside (length bytes) h) ≡ codesBy bytes h
+unfolding allBy
 head-same bytes h =
     let c = h .codes in
     rw (inside-same bytes (c .cs), inside-same bytes (c .dc), inside-same bytes (c .clk), inside-same bytes (c .mosi), inside-same bytes (c .rst))

@@ -1,17 +1,23 @@
 -- Only whether a code is one of the five's counts: two lists of codes that agree on that go the same way.
 use mathlib.Core.Path.{_≡_, refl, sym, ap, _∙_}
 use mathlib.Core.Bool.{Bool, true, false, _&&_, not, false≢true}
-use mathlib.Core.List.{List, [], _∷_}
-use Prim.Native.Nat.{ℕ}
+use mathlib.Core.List.{List, [], _∷_, _++_}
+use Prim.Native.Nat.{ℕ, _<_}
 use lib.Dec.{eqb, ltb}
+use lib.ListN.{length, drop}
 use Rattle.base.specs.Pick.{pick}
 use Rattle.base.proofs.Cases.{by-cases}
-use Rattle.vcd_words.specs.Words.{alike, among, printable}
+use Rattle.vcd_words.specs.Words.{alike, among, printable, closed}
 use Rattle.vcd_values.specs.Levels.{level, unknown, noLevel}
+use Rattle.vcd_declarations.specs.declared.head.Begun.{Begun}
 use Rattle.vcd_declarations.specs.Declarations.{isEnd}
+use Rattle.vcd_declarations.specs.Codes.{fiveIn}
+use Rattle.vcd_declarations.specs.Begun.{allBy, Begins}
+use Rattle.vcd_declarations.proofs.Settled.{settled-five, settled-all}
 use Rattle.vcd_simulation.specs.declared.body.Wanted.{Wanted}
 use Rattle.vcd_simulation.specs.declared.body.Wanted.the-variants as want
 use Rattle.vcd_simulation.specs.declared.body.Body.{Body}
+use Rattle.vcd_simulation.specs.Feed.{codesBy}
 use Rattle.vcd_simulation.specs.Simulation.{Codes, Went, changes, isCode, codeWord, nextOf, valueWord, commandWord, wordBy, wordDone, wordsDone}
 
 pub record Same (c d : Codes) : Type 0 where
@@ -56,3 +62,10 @@ module _ (c d : Codes) (s : Same c d) where
   pub words-same : (ws : List (List ℕ)) (b : Body) → wordsDone c ws b ≡ wordsDone d ws b
   words-same [] b = refl
   words-same (w ∷ ws) b = rw (word-same w b, words-same ws (wordDone d w b .body))
+
+-- the codes of a dump's first bytes are those of the dump, once a word after the declarations is closed in them
+pub codes-settled : (h : List ℕ) (b : Begun) → Begins h b → 0 < length (closed (drop (b .next) h)) → (more : List ℕ)
+    → codesBy (h ++ more) (b .head) ≡ codesBy h (b .head)
+codes-settled h b g k more =
+    ap (λ (l : List (List ℕ)). record { five = l; all = allBy (h ++ more) (b .head) }) (settled-five h more (b .head .codes) (g .codes-in))
+    ∙ ap (λ (l : List (List ℕ)). record { five = fiveIn h (b .head .codes); all = l }) (settled-all h b g k more)

@@ -237,41 +237,6 @@ module _ (r : Plan) (w : List ℕ) (b : Body) (went : Codes → Went) (p : Plans
   pub plan-change : r .changes ≡ true → codeWord codes (r .body .wanted) (drop (r .from) w) (r .level) b ≡ went codes
   plan-change e = rw e at p .comes codes
 
--- ---- the order of two words that are the same
-alike-turn : (v w : List ℕ) → alike w v ≡ alike v w
-alike-turn [] [] = refl
-alike-turn [] (b ∷ w) = refl
-alike-turn (a ∷ v) [] = refl
-alike-turn (a ∷ v) (b ∷ w) = rw (alike-turn v w, eqb-turn a b)
-  where
-    eqb-turn : (a b : ℕ) → eqb b a ≡ eqb a b
-    eqb-turn a b = by-cases (eqb a b) (λ e. eq-eqb b a (sym (eqb-true a b e)) ∙ sym e) (λ e. ne-eqb b a (λ d. eqb-false a b e (sym d)) ∙ sym e)
-
--- a word is one of five, tested one after the other
-module _ (v0 v1 v2 v3 v4 w : List ℕ) where
-  abbrev one-of-five : Bool
-  one-of-five = among (v0 ∷ v1 ∷ v2 ∷ v3 ∷ v4 ∷ []) w
-
-  pub first-of-five : alike v0 w ≡ true → true ≡ one-of-five
-  first-of-five a = rw (alike-turn v0 w, a)
-
-  pub second-of-five : alike v0 w ≡ false → alike v1 w ≡ true → true ≡ one-of-five
-  second-of-five a b = rw (alike-turn v0 w, a, alike-turn v1 w, b)
-
-  pub third-of-five : alike v0 w ≡ false → alike v1 w ≡ false → alike v2 w ≡ true → true ≡ one-of-five
-  third-of-five a b c = rw (alike-turn v0 w, a, alike-turn v1 w, b, alike-turn v2 w, c)
-
-  pub fourth-of-five : alike v0 w ≡ false → alike v1 w ≡ false → alike v2 w ≡ false → alike v3 w ≡ true → true ≡ one-of-five
-  fourth-of-five a b c d = rw (alike-turn v0 w, a, alike-turn v1 w, b, alike-turn v2 w, c, alike-turn v3 w, d)
-
-  pub last-of-five : alike v0 w ≡ false → alike v1 w ≡ false → alike v2 w ≡ false → alike v3 w ≡ false → (t : Bool) → t ≡ alike v4 w → t ≡ one-of-five
-  last-of-five a b c d t e =
-      rw (alike-turn v0 w, a, alike-turn v1 w, b, alike-turn v2 w, c, alike-turn v3 w, d, alike-turn v4 w, ← e) (pick-true t)
-    where
-      pick-true : (s : Bool) → s ≡ pick s true false
-      pick-true true = refl
-      pick-true false = refl
-
 -- ---- by what may come next
 pub steps-as : {v w : Went} {held : ℕ} {r : Stepped} {b c : List ℕ} → Steps v held r b c → v ≡ w → Steps w held r b c
 steps-as s e = rw (← e) s

@@ -8,16 +8,16 @@ use Rattle.base.specs.Pick.{pick}
 use Rattle.event.specs.declared.Event.{Event}
 use Rattle.vcd_words.specs.Words.{words, closed, opened}
 use Rattle.vcd_declarations.specs.declared.head.Head.{Head}
-use Rattle.vcd_declarations.specs.Declarations.{headOf}
 use Rattle.vcd_declarations.specs.Codes.{fiveIn}
+use Rattle.vcd_declarations.specs.Begun.{allBy}
 use Rattle.vcd_simulation.specs.declared.body.Body.{Body}
 use Rattle.vcd_simulation.specs.declared.feeding.Fed.{Fed}
 use Rattle.vcd_simulation.specs.Simulation.{Codes, Went, wordsDone}
 use Rattle.vcd_simulation.specs.Written.{written}
 
--- the codes by their places in the head; every code of the five is one of these, but where one was declared twice or wide
+-- the codes by their places in the head
 abbrev pub codesBy : List ℕ → Head → Codes
-codesBy head h = record { five = fiveIn head (h .codes); all = pick (h .bad) (headOf (words head) .all) (fiveIn head (h .codes)) }
+codesBy head h = record { five = fiveIn head (h .codes); all = allBy head h }
 
 -- the words of some bytes; the last one counts where the dump ends with it
 abbrev pub wordsBy : Bool → List ℕ → List (List ℕ)

@@ -26,7 +26,8 @@ codesInside n c = record {
 }
 
 abbrev pub headInside : ℕ → Head → Head
-headInside n h = record { broken = h .broken; scaled = h .scaled; bad = h .bad; codes = codesInside n (h .codes) }
+headInside n h =
+    record { broken = h .broken; scaled = h .scaled; bad = h .bad; codes = codesInside n (h .codes); further = h .further }
 
 abbrev pub isOpen : Bool → ℕ → ℕ → Bool
 isOpen last to n = pick last false (leb n to)

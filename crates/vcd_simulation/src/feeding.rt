@@ -64,11 +64,13 @@ fn head_inside(h: Head, n: usize) -> Head
 {
     let c = h.codes;
     let codes = codes_inside(c, n);
+    let further = h.further;
     Head {
         broken: h.broken,
         scaled: h.scaled,
         bad: h.bad,
         codes,
+        further,
     }
 }
 

@@ -14,10 +14,9 @@ ghost use Rattle.vcd_simulation.specs.InnerSteps.{Steps, onlyTo, codeAt,
 use crate::body::Body;
 use crate::body::Wanted;
 use crate::change::change;
-use crate::codes::is_code;
 use vcd_declarations::Head;
-use vcd_declarations::is_declared;
 use vcd_declarations::is_end;
+use vcd_declarations::is_known;
 use vcd_values::NO_LEVEL;
 use vcd_values::Time;
 use vcd_values::UNKNOWN;
@@ -85,41 +84,8 @@ fn code_at(b: Body, next: Wanted, level: u8, from: usize) -> Plan
     }
 }
 
-// The code is one of the five's first.
-fn is_first(head: &[u8], h: Head, code: &[u8]) -> bool
-    requires { ⌜ AllWithin (h .codes) (length (now head)) ⌝ }
-    ensures { λ r. ⌜ r ≡ among (codesBy (now (head .entry)) h .five) (now (code .entry)) ⌝ }
-{
-    let c = h.codes;
-    if is_code(head, c.cs, code) {
-        return true;
-    }
-    if is_code(head, c.dc, code) {
-        return true;
-    }
-    if is_code(head, c.clk, code) {
-        return true;
-    }
-    if is_code(head, c.mosi, code) {
-        return true;
-    }
-    is_code(head, c.rst, code)
-}
-
-// The code is one of the five's.
-fn is_known(head: &[u8], h: Head, code: &[u8]) -> bool
-    requires { ⌜ AllWithin (h .codes) (length (now head)) ⌝ }
-    ensures { λ r. ⌜ r ≡ among (codesBy (now (head .entry)) h .all) (now (code .entry)) ⌝ }
-{
-    if h.bad {
-        return is_declared(head, code);
-    }
-    is_first(head, h, code)
-}
-
 // After a value that is neither 0 nor 1.
 fn unknown(head: &[u8], h: Head, next: Wanted, code: &[u8], b: Body) -> Body
-    requires { ⌜ AllWithin (h .codes) (length (now head)) ⌝ }
     ensures { λ r. ⌜ r ≡ rule.unknownAt (codesBy (now (head .entry)) h) next (now (code .entry)) b .body ⌝ }
 {
     if is_known(head, h, code) {

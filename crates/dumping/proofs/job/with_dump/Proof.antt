@@ -1,4 +1,6 @@
--- `dumping::job::with_dump` is safe: what is lent keeps its lengths.
+-- `dumping::job::with_dump` meets its contract: the dump is played, and what is lent keeps its lengths.
+use Rattle.controller.specs.World.{Buffers, buffers}
+use Rattle.dumping.proofs.JobLaws.{dump-ran}
 use borrow.Author.Needs.{needs}
 use Rattle.dumping.proofs.job.with_dump.Statement.{statement}
 use Rattle.dumping.proofs.job.with_dump.Tie as tie
@@ -57,6 +59,16 @@ same-length-9 c =
     .before .before .before .before .before .before .before .before .before .before .before .before .before .before in
     at-play .play .kept .1 .1 .1 .1 .1 .1 .1 .1 .1 .1 .1 .0
 
+returns : tie.Need-returns
+returns c =
+    let at-play = c .before .before .before .before .before .before .before .before .before .before .before .before .before .before
+    .before .before .before .before .before .before .before .before .before .before .before .before .before .before .before in
+    let start = at-play .before .before .before .before .before .before .before .before .before .before .before .before .before .before
+    .before .before .before .before .before .before .before .before .before in
+    let a = start .args in
+    let b : Buffers = buffers (a .old .now) (a .new .now) (a .states .now) (a .numbers .now) (a .picture .now) (a .rows .now) in
+    dump-ran (a .config .now) (start .pre) (at-play .play .result) _ _ b _ (at-play .play .ensures)
+
 pub with-dump-spec : {M : Type 1} → statement M
 with-dump-spec =
     tie.close
@@ -78,4 +90,4 @@ with-dump-spec =
     same-length-7
     same-length-8
     same-length-9
-    (λ c. search needs))
+    returns)

@@ -1,5 +1,6 @@
--- `dumping::job::with_kept` is safe: an array of so many bytes has its length.
-use mathlib.Core.Path.{sym}
+-- `dumping::job::with_kept` meets its contract: an array of so many bytes has its length.
+use mathlib.Core.Path.{sym, _∙_}
+use Rattle.dumping.proofs.JobLaws.{ran-most}
 use Prim.Native.Nat.{ℕ}
 use lib.ListN.{length-replicate}
 use borrow.Author.Needs.{needs}
@@ -63,6 +64,13 @@ same-length-8 c =
     .before .before in
     at-with-dump .with-dump .kept .1 .1 .1 .1 .1 .1 .1 .1 .1 .1 .1 .1 .1 .1 .0
 
+returns : tie.Need-returns
+returns c =
+    let at-with-dump = c .before .before .before .before .before .before .before .before .before .before .before .before .before .before
+    .before .before in
+    ran-most (at-with-dump .with-dump .kept .1 .1 .1 .1 .1 .1 .1 .1 .0 ∙ length-replicate {A = ℕ} 1048576 0)
+    (at-with-dump .with-dump .ensures)
+
 pub with-kept-spec : {M : Type 1} → statement M
 with-kept-spec =
     tie.close
@@ -77,4 +85,4 @@ with-kept-spec =
     same-length-6
     same-length-7
     same-length-8
-    (λ c. search needs))
+    returns)

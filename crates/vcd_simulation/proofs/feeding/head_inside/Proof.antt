@@ -5,7 +5,7 @@ use Rattle.vcd_simulation.proofs.feeding.head_inside.Tie as tie
 
 returns : tie.Need-returns
 returns c =
-    rw (c .codes-inside .ensures)
+    rw (c .before .codes-inside .ensures)
 
 pub head-inside-spec : {M : Type 1} → statement M
 head-inside-spec = tie.close (tie.spec (λ c κs. search needs) returns)
