@@ -59,14 +59,15 @@ JOLLANQE_HOLDS(sizeof(size_t) == 8 && sizeof(bool) == 1);
 
 /* A capture file: events, the configuration, a trailer that points back to it. */
 #define JOLLANQE_EVENT_BYTES 10
-#define JOLLANQE_CONFIGURATION_BYTES 312
+#define JOLLANQE_CONFIGURATION_BYTES 312 /* for a clock of 1 GHz */
+#define JOLLANQE_RATED_BYTES 320         /* with the rate of the clock behind them */
 #define JOLLANQE_TRAILER_BYTES 8
 
 /* What `answer` is beside a byte from 0 to 255. */
 #define JOLLANQE_NOTHING 256 /* a read to which the controller drives nothing, or that was refused */
 #define JOLLANQE_NO_READ 257 /* a call or an event that is no read */
 
-/* Why a call is refused. The library gives 0 to 7; 8 to 10 are said of a capture file by programs. */
+/* Why a call is refused. The library gives 0 to 7 and 13; the others are said of files by programs. */
 enum jollanqe_refusal {
     JOLLANQE_TAKEN = 0,
     JOLLANQE_EMPTY_PANEL = 1,      /* sources or gates is 0 */
@@ -78,7 +79,10 @@ enum jollanqe_refusal {
     JOLLANQE_FOREIGN_CONTENTS = 7, /* the call ends a refresh; a state or a table number is out of range */
     JOLLANQE_BROKEN_CAPTURE = 8,   /* the file's length or its trailer */
     JOLLANQE_BAD_EVENT = 9,        /* a variant, flag, event kind or value that is not listed */
-    JOLLANQE_TOO_MANY_PIXELS = 10  /* more than the program has room for */
+    JOLLANQE_TOO_MANY_PIXELS = 10, /* more than the program has room for */
+    JOLLANQE_MALFORMED_DUMP = 11,  /* an analyser's dump that cannot be read */
+    JOLLANQE_WRONG_SIGNALS = 12,   /* one of its five signals missing, wide or declared twice */
+    JOLLANQE_CLOCK_RATE = 13       /* the rate is 0 or above 1,000,000,000 Hz */
 };
 
 /* The kinds of an event. */
@@ -192,7 +196,7 @@ typedef struct jollanqe_optics {
 } jollanqe_optics;
 JOLLANQE_HOLDS(sizeof(jollanqe_optics) == 16 && offsetof(jollanqe_optics, initial_gray) == 9);
 
-/* How long each operation keeps BUSY_N low, in nanoseconds. */
+/* How long each operation keeps BUSY_N low, in nanoseconds; and the clock in whose cycles every other time is. */
 typedef struct jollanqe_timing {
     uint64_t power_on;         /* 04, PON */
     uint64_t power_off;        /* 02, POF */
@@ -200,8 +204,9 @@ typedef struct jollanqe_timing {
     uint64_t soft_reset;       /* first byte of 00 with bit 0 clear */
     uint64_t hardware_reset;   /* from the moment RST_N rises */
     uint64_t frame_period[32]; /* by the code of 30, PLL; none of them 0 */
+    uint64_t rate;             /* of the board's clock in Hz, 1 to 1,000,000,000 */
 } jollanqe_timing;
-JOLLANQE_HOLDS(sizeof(jollanqe_timing) == 296 && offsetof(jollanqe_timing, frame_period) == 40);
+JOLLANQE_HOLDS(sizeof(jollanqe_timing) == 304 && offsetof(jollanqe_timing, rate) == 296);
 
 /* The registers, but for the tables. */
 typedef struct jollanqe_registers {
@@ -314,9 +319,9 @@ typedef struct jollanqe_record {
     bool data_flag;               /* 11 came after the last plane */
     uint8_t current;              /* enum jollanqe_current */
 } jollanqe_record;
-JOLLANQE_HOLDS(sizeof(jollanqe_record) == 1016 && offsetof(jollanqe_record, regs) == 320);
-JOLLANQE_HOLDS(offsetof(jollanqe_record, waveform) == 560 && offsetof(jollanqe_record, image) == 952);
-JOLLANQE_HOLDS(offsetof(jollanqe_record, now) == 1000 && offsetof(jollanqe_record, current) == 1013);
+JOLLANQE_HOLDS(sizeof(jollanqe_record) == 1024 && offsetof(jollanqe_record, regs) == 328);
+JOLLANQE_HOLDS(offsetof(jollanqe_record, waveform) == 568 && offsetof(jollanqe_record, image) == 960);
+JOLLANQE_HOLDS(offsetof(jollanqe_record, now) == 1008 && offsetof(jollanqe_record, current) == 1021);
 
 /* What a call gives back. */
 typedef struct jollanqe_given {
@@ -324,8 +329,8 @@ typedef struct jollanqe_given {
     uint8_t refused;      /* enum jollanqe_refusal, 0 where the call was taken */
     uint16_t answer;      /* a read's byte, 256 for none; how many rows were taken; else 257 */
 } jollanqe_given;
-JOLLANQE_HOLDS(sizeof(jollanqe_given) == 1024 && offsetof(jollanqe_given, refused) == 1016);
-JOLLANQE_HOLDS(offsetof(jollanqe_given, answer) == 1018);
+JOLLANQE_HOLDS(sizeof(jollanqe_given) == 1032 && offsetof(jollanqe_given, refused) == 1024);
+JOLLANQE_HOLDS(offsetof(jollanqe_given, answer) == 1026);
 
 /* What a question gives back. */
 typedef struct jollanqe_asked {
@@ -348,9 +353,10 @@ JOLLANQE_HOLDS(sizeof(jollanqe_asked) == 16 && offsetof(jollanqe_asked, known) =
 
 /*
  * Makes a panel from the configuration of a capture file: the 312 bytes to which the file's trailer
- * points (a file of these and the trailer 0, 0 will do). Bytes past the file's end count as 0, so an
- * empty file is refused by 1. Refusals 8 and 9 are not tested: a variant other than 0 is a UC8279d, and
- * flags above bit 2 are passed over. Every entry of the six buffers is set.
+ * points (a file of these and the trailer 0, 0 will do), at 1 GHz, or at the rate behind them where the
+ * file has offset + 328 bytes. Bytes past the file's end count as 0, so an empty file is refused by 1.
+ * Refusals 8 and 9 are not tested: a variant other than 0 is a UC8279d, and flags above bit 2 are passed
+ * over. Every entry of the six buffers is set.
  */
 jollanqe_given jollanqe_make(const uint8_t *file, size_t file_length, uint8_t *old_plane, size_t old_length,
                              uint8_t *new_plane, size_t new_length, int64_t *states, size_t states_length,
@@ -444,7 +450,7 @@ static inline const char *jollanqe_refusal_word(unsigned number) {
     static const char *const words[] = {
         "taken",           "empty panel",    "oversized panel",  "swing",          "frame period",
         "buffer length",   "foreign record", "foreign contents", "broken capture", "bad event",
-        "too many pixels", "malformed dump", "signals",
+        "too many pixels", "malformed dump", "signals",          "rate out of range",
     };
     return number < sizeof words / sizeof *words ? words[number] : "";
 }

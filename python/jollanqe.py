@@ -8,8 +8,8 @@ A panel takes what goes over the bus and draws what the glass shows:
     panel.send(0, 0x04)                      # power on
     panel.advance(panel.deadline())
 
-Times are nanoseconds. Bytes of commands, captures, diagnostics and refusals are in the project's
-docs/FORMAT.md, what a host can get wrong in docs/HOSTS.md.
+Times are cycles of the configuration's clock, nanoseconds where it has no other rate. Bytes of commands,
+captures, diagnostics and refusals are in the project's docs/FORMAT.md, what a host can get wrong in docs/HOSTS.md.
 
 The model is a shared library, which tools/shared makes. It is looked for where the environment's
 JOLLANQE_LIBRARY says, beside this file, in the project's target/shared, and then by the system's
@@ -34,6 +34,8 @@ MOST_SOURCES, MOST_GATES = 800, 600
 PLANE_BYTES = 60_000
 ROW_NUMBERS, MOST_ROWS = 5, 1_024
 EVENT_BYTES, CONFIGURATION_BYTES, TRAILER_BYTES = 10, 312, 8
+RATED_BYTES = 320  # a configuration with the rate of the clock behind it
+GIGAHERTZ = 1_000_000_000
 
 UC8253, UC8279D = 0, 1
 COMMAND, DATA, READ, RESET, ADVANCE = 1, 2, 3, 4, 5
@@ -53,6 +55,7 @@ WORDS = (
     "too many pixels",
     "malformed dump",
     "signals",
+    "rate out of range",
 )
 
 
@@ -108,7 +111,7 @@ class Optics(Structure):
 
 
 class Timing(Structure):
-    """How long each operation keeps BUSY_N low, and the frame period of each code of 30."""
+    """How long each operation keeps BUSY_N low, the frame period of each code of 30, and the clock's rate."""
 
     _fields_ = [
         ("power_on", c_uint64),
@@ -117,6 +120,7 @@ class Timing(Structure):
         ("soft_reset", c_uint64),
         ("hardware_reset", c_uint64),
         ("frame_period", c_uint64 * 32),
+        ("rate", c_uint64),
     ]
 
 
@@ -252,7 +256,7 @@ SIZES = {
     Cursor: 4,
     Geometry: 6,
     Optics: 16,
-    Timing: 296,
+    Timing: 304,
     Registers: 28,
     Luts: 210,
     Group: 9,
@@ -262,8 +266,8 @@ SIZES = {
     Active: 18,
     Operation: 32,
     Image: 32,
-    Record: 1_016,
-    Given: 1_024,
+    Record: 1_024,
+    Given: 1_032,
     Asked: 16,
 }
 
@@ -420,6 +424,7 @@ class Configuration:
     deep_sleep: int = 0
     soft_reset: int = 0
     hardware_reset: int = 0
+    rate: int = GIGAHERTZ
 
     @classmethod
     def x3(cls, variant=UC8253):
@@ -440,7 +445,7 @@ class Configuration:
         )
 
     def to_bytes(self):
-        """The 312 bytes of a capture."""
+        """The 312 bytes of a capture; with a rate other than 1 GHz behind them 320."""
         periods = tuple(self.frame_periods)
         if len(periods) != 32:
             raise ValueError(f"{len(periods)} frame periods, not 32")
@@ -449,6 +454,7 @@ class Configuration:
         flags = bool(self.rows_reversed) | bool(self.columns_reversed) << 1 | bool(self.positive_drives_black) << 2
         if not -128 <= index(self.ambient) <= 127:
             raise ValueError(f"ambient {self.ambient} is no signed byte")
+        rate = _number(self.rate, 2**64 - 1, "rate")
         return _LAYOUT.pack(
             self.variant,
             flags,
@@ -459,11 +465,13 @@ class Configuration:
             _number(self.full_swing, 2**64 - 1, "full swing"),
             *map(_time, (self.power_on, self.power_off, self.deep_sleep, self.soft_reset, self.hardware_reset)),
             *map(_time, periods),
-        )
+        ) + (b"" if rate == GIGAHERTZ else rate.to_bytes(8, "little"))
 
     @classmethod
     def from_bytes(cls, data):
-        """The configuration of 312 bytes. Refused by 9 where its variant or a flag is not listed."""
+        """The configuration of 312 bytes, or 320. Refused by 9 where its variant or a flag is not listed."""
+        rate = int.from_bytes(data[CONFIGURATION_BYTES:], "little") if len(data) == RATED_BYTES else GIGAHERTZ
+        data = data[:CONFIGURATION_BYTES] if len(data) == RATED_BYTES else data
         variant, flags, sources, gates, grey, ambient, swing, *times = _LAYOUT.unpack(data)
         if variant > UC8279D or flags > 7:
             raise Refused(9)
@@ -484,6 +492,7 @@ class Configuration:
             soft_reset=soft,
             hardware_reset=hard,
             frame_periods=tuple(periods),
+            rate=rate,
         )
 
 
@@ -510,11 +519,11 @@ def read_capture(file):
     program, this takes files of any length.
     """
     file = _bytes(file)
-    tail = CONFIGURATION_BYTES + TRAILER_BYTES
-    if len(file) < tail:
+    if len(file) < CONFIGURATION_BYTES + TRAILER_BYTES:
         raise Refused(8)
     offset, count = struct.unpack("<II", file[-TRAILER_BYTES:])
-    if offset != EVENT_BYTES * count or len(file) != offset + tail:
+    tail = len(file) - offset - TRAILER_BYTES
+    if offset != EVENT_BYTES * count or tail not in (CONFIGURATION_BYTES, RATED_BYTES):
         raise Refused(8)
     configuration = Configuration.from_bytes(file[offset:-TRAILER_BYTES])
     events = file[:offset]
@@ -734,6 +743,7 @@ def _shows():
         deep_sleep=13,
         soft_reset=14,
         hardware_reset=15,
+        rate=32_768,
     )
     panel = Panel(configuration)
     panel.command(9, 0xFF)
@@ -741,10 +751,10 @@ def _shows():
     seen = [record.panel.sources, record.panel.gates, record.panel.rows_reversed, record.panel.columns_reversed]
     seen += [record.optics.full_swing, record.optics.positive_drives_black, record.optics.initial_gray]
     seen += [timing.power_on, timing.power_off, timing.deep_sleep, timing.soft_reset, timing.hardware_reset]
-    seen += list(timing.frame_period)
+    seen += [*timing.frame_period, timing.rate]
     seen += [record.image.width, record.image.height, record.log.stored, record.now, record.variant, record.ambient]
     seen += [record.current, list(panel.picture), panel.read(9), panel.deadline(), panel.take()]
-    must = [3, 2, False, True, 2**62 + 1, False, 77, 11, 12, 13, 14, 15, *range(101, 133)]
+    must = [3, 2, False, True, 2**62 + 1, False, 77, 11, 12, 13, 14, 15, *range(101, 133), 32_768]
     must += [3, 2, 1, 9, 1, 251, 1, [77] * 6, None, None, [(9, 1, 255, 0, 0)]]
     return seen, must
 

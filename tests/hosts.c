@@ -126,6 +126,13 @@ static void write_file(uint8_t file[FILE_BYTES], uint8_t variant) {
     }
 }
 
+/* The same with a rate. */
+static void write_rated(uint8_t file[FILE_BYTES + 8], uint64_t rate) {
+    write_file(file, 0);
+    memset(file + FILE_BYTES, 0, 8);
+    put(file + FILE_BYTES - 8, rate, 8);
+}
+
 static panel made(uint8_t variant) {
     uint8_t file[FILE_BYTES];
     write_file(file, variant);
@@ -244,12 +251,39 @@ static void configurations(void) {
         jollanqe_given given = jollanqe_make(file, sizeof file, JOLLANQE_LENT(lent));
         must(given.refused == faults[i].number && same_records(&given.chip, &zeros), "making is refused, zeros");
     }
+    static const uint64_t rates[] = {0, 1000000001, UINT64_MAX};
+    for (size_t i = 0; i < sizeof rates / sizeof *rates; i++) {
+        uint8_t file[FILE_BYTES + 8];
+        write_rated(file, rates[i]);
+        jollanqe_given given = jollanqe_make(file, sizeof file, JOLLANQE_LENT(lent));
+        must(given.refused == JOLLANQE_CLOCK_RATE && same_records(&given.chip, &zeros), "making is refused, zeros");
+        put(file + 304, 0, 8);
+        must(jollanqe_make(file, sizeof file, JOLLANQE_LENT(lent)).refused == JOLLANQE_FRAME_PERIOD, "4 before 13");
+    }
     uint8_t nothing = 0;
     must(jollanqe_make(&nothing, 0, JOLLANQE_LENT(lent)).refused == JOLLANQE_EMPTY_PANEL, "an empty file");
     must(same_buffers(before, lent), "a refused making changes nothing");
     give_up(lent);
     give_up(before);
-    shown("a configuration out of range, an empty file: making is refused by 1, 2, 3 or 4, a record of zeros");
+    shown("a configuration out of range, an empty file: making is refused by 1, 2, 3, 4 or 13, a record of zeros");
+}
+
+static void rates(void) {
+    static const uint64_t taken[] = {1, 32768, 1000000000};
+    for (size_t i = 0; i < sizeof taken / sizeof *taken; i++) {
+        uint8_t file[FILE_BYTES + 8];
+        write_rated(file, taken[i]);
+        jollanqe_buffers lent = lend(fitting);
+        jollanqe_given given = jollanqe_make(file, sizeof file, JOLLANQE_LENT(lent));
+        must(given.refused == 0 && given.chip.timing.rate == taken[i], "the record has the rate of the file");
+        given.chip.timing.rate = 0;
+        must(jollanqe_busy(given.chip, 0).refused == JOLLANQE_FOREIGN_RECORD, "a record with a rate of 0 is foreign");
+        give_up(lent);
+    }
+    panel p = made(0);
+    must(p.record.timing.rate == 1000000000, "312 bytes mean 1 GHz");
+    give_up(p.lent);
+    shown("a rate behind the configuration: in the record; without one 1 GHz; a record with a rate of 0: refused by 6");
 }
 
 static void lengths(void) {
@@ -583,13 +617,15 @@ static void words(void) {
     must(strcmp(jollanqe_refusal_word(5), "buffer length") == 0, "5");
     must(strcmp(jollanqe_refusal_word(10), "too many pixels") == 0, "10");
     must(strcmp(jollanqe_refusal_word(12), "signals") == 0, "12");
-    must(*jollanqe_refusal_word(13) == 0 && *jollanqe_refusal_word(~0u) == 0, "no such number");
+    must(strcmp(jollanqe_refusal_word(13), "rate out of range") == 0, "13");
+    must(*jollanqe_refusal_word(20) == 0 && *jollanqe_refusal_word(~0u) == 0, "no such number");
     shown("each refusal has its word");
 }
 
 int main(int count, char **arguments) {
     uint32_t tries = count > 1 ? (uint32_t)strtoul(arguments[1], NULL, 10) : 20000;
     configurations();
+    rates();
     lengths();
     foreign_records();
     foreign_contents();

@@ -192,6 +192,24 @@ class Cases(unittest.TestCase):
                 jollanqe.read_capture(file[:length])
 
 
+    def test_a_capture_with_a_rate(self):
+        events = event(7, 3) + event(7, 2, 9)
+        for rate in (0, 1, 32_768, 999_999_999, 1_000_000_001, 2**64 - 1):
+            configuration = replace(SMALL, rate=rate)
+            file = jollanqe.write_capture(configuration, events)
+            self.assertEqual(len(file), 20 + 320 + 8)
+            self.assertEqual(jollanqe.read_capture(file), (configuration, events))
+            for length in range(len(file)):
+                with self.assertRaisesRegex(Refused, "refused 8: broken capture"):
+                    jollanqe.read_capture(file[:length])
+        file = jollanqe.write_capture(SMALL, events)
+        self.assertEqual(len(file), 20 + 312 + 8)
+        said = file[:-8] + (10**9).to_bytes(8, "little") + file[-8:]
+        self.assertEqual(jollanqe.read_capture(said), (SMALL, events))
+        with self.assertRaisesRegex(Refused, "refused 8"):
+            jollanqe.read_capture(file[:-8] + bytes(4) + file[-8:])
+
+
 class Refusals(unittest.TestCase):
     def refused(self, number, call):
         with self.assertRaises(Refused) as caught:
@@ -204,7 +222,7 @@ class Refusals(unittest.TestCase):
             self.refused(number, lambda: call(panel))
             self.assertEqual(everything(panel), before)
 
-    def test_a_configuration_out_of_range_1_to_4(self):
+    def test_a_configuration_out_of_range_1_to_4_and_13(self):
         periods = (1_000,) * 31 + (0,)
         for number, change in [
             (1, {"sources": 0}),
@@ -213,6 +231,10 @@ class Refusals(unittest.TestCase):
             (3, {"full_swing": 0}),
             (3, {"full_swing": 2**63}),
             (4, {"frame_periods": periods}),
+            (4, {"frame_periods": periods, "rate": 0}),
+            (13, {"rate": 0}),
+            (13, {"rate": 1_000_000_001}),
+            (13, {"rate": 2**64 - 1}),
         ]:
             self.refused(number, lambda: Panel(replace(SMALL, **change)))
 

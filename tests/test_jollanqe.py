@@ -34,6 +34,11 @@ def capture(sources=8, gates=1, grey=0):
     return body + config + struct.pack("<II", len(body), len(events))
 
 
+def rated(file, rate):
+    """A capture with a rate behind its configuration."""
+    return file[:-8] + struct.pack("<Q", rate) + file[-8:]
+
+
 def png(data):
     """Width, height and grey pixels of a PNG file of 8 bits a pixel; every sum in it is tested."""
     assert data[:8] == b"\x89PNG\r\n\x1a\n"
@@ -107,6 +112,44 @@ class Pictures(Folder):
         self.assertEqual(png((self.dir / "made" / "1.png").read_bytes()), (8, 1, bytes([128] * 4 + [0] * 4)))
 
 
+class Rates(Folder):
+    """Captures with a rate behind the configuration."""
+
+    def put(self, name, data):
+        (self.dir / name).write_bytes(data)
+        return name
+
+    def test_1_ghz_said_or_not(self):
+        name = self.put("said.capture", rated(capture(), 10**9))
+        self.says(self.run_it("lines", name), self.run_it("lines", "good.capture").stdout, b"")
+        self.says(self.run_it("compare", name, "good.capture"), b"the captures agree\n", b"")
+
+    def test_two_rates(self):
+        name = self.put("slow.capture", rated(capture(), 32_768))
+        said = self.run_it("compare", name, "good.capture").stdout
+        self.assertTrue(said.startswith(b"configuration rate: 32768, 1000000000\n"), said)
+
+    def test_out_of_range(self):
+        for rate in (0, 10**9 + 1, 2**64 - 1):
+            name = self.put("bad.capture", rated(capture(), rate))
+            self.says(self.run_it("lines", name), b"refused 13\n", b"bad.capture: refused 13: rate out of range\n")
+
+    def test_lengths(self):
+        for more in (1, 4, 7, 9, 16):
+            name = self.put("bad.capture", capture()[:-8] + bytes(more) + capture()[-8:])
+            words = b"bad.capture: refused 8: broken capture: %d bytes, not 460 or 468\n" % (460 + more)
+            self.says(self.run_it("lines", name), b"refused 8\n", words)
+
+    def test_the_most_events(self):
+        config = capture()[-320:-8]
+        for rate, most in (b"", 6_521), (struct.pack("<Q", 1), 6_520):
+            for events in (most, most + 1):
+                body = struct.pack("<QBB", 0, ADVANCE, 0) * events
+                name = self.put("full.capture", body + config + rate + struct.pack("<II", len(body), events))
+                said = self.run_it("lines", name).stdout
+                self.assertEqual(said.startswith(b"refused 8\n"), events > most, (most, events))
+
+
 class Dumps(Folder):
     """The words `vcd` and `config`: what is read, and what a person can get wrong."""
 
@@ -148,6 +191,8 @@ class Dumps(Folder):
         self.says(self.run_it("config", "good.capture"), (self.dir / "panel.config").read_bytes(), b"")
         self.says(self.run_it("config", "panel.config"), b"refused 8\n", b"panel.config: refused 8: broken capture: 312 bytes, at least 320\n")
         self.says(self.run_it("config", "missing"), b"", b"missing: ")
+        (self.dir / "rated.capture").write_bytes(rated(capture(), 32_768))
+        self.says(self.run_it("config", "rated.capture"), (self.dir / "panel.config").read_bytes(), b"")
 
     def test_configurations(self):
         name = self.worked()
@@ -155,6 +200,7 @@ class Dumps(Folder):
         for bytes_, number, words in (
             (config[:-1], 8, b"broken capture: 311 bytes, a configuration has 312"),
             (config + b"\0", 8, b"broken capture: 313 bytes, a configuration has 312"),
+            (config + struct.pack("<Q", 10**9), 8, b"broken capture: 320 bytes, a configuration has 312"),
             (b"\2" + config[1:], 9, b"bad event: variant 2, at most 1"),
             (config[:1] + b"\x08" + config[2:], 9, b"bad event: flags 8, at most 7"),
             (config[:2] + b"\0\0" + config[4:], 1, b"empty panel"),

@@ -41,6 +41,11 @@ def capture(events, variant=0, flags=4, sources=8, gates=1, grey=0, swing=SWING,
     return body + config + struct.pack("<II", len(body), len(events))
 
 
+def rated(file, rate):
+    """A capture with a rate behind its configuration."""
+    return file[:-8] + struct.pack("<Q", rate) + file[-8:]
+
+
 def started(frames=1):
     """A refresh of so many frames, and two, starts at 100: four pixels from black to white."""
     table = [0x80, frames, 0, 0, 0, 1] + [0] * 36
@@ -416,7 +421,7 @@ class Refusals(Case):
         self.refused(8, "broken capture: 65,540 bytes, at most 65,536", capture([(0, 5, 0)] * 6_522))
         self.refused(8, "broken capture: 30,000,000 bytes, at most 65,536", bytes(30_000_000))
         article = self.refused(8, "broken capture: offset 20 for 1 events, not 10", QUIET[:-8] + struct.pack("<II", 20, 1))
-        self.assertIn('<p class="meaning">Look at the length, which is 320 + 10 × n; the last 8 bytes.', article)
+        self.assertIn('<p class="meaning">Look at the length, which is 320 + 10 × n, or 328 + 10 × n with a rate; the last 8 bytes.', article)
 
     def test_bad_events(self):
         events = [(0, ADVANCE, 0)] * 17
@@ -430,6 +435,14 @@ class Refusals(Case):
         self.assertIn("Look at configuration +2 to +5; the two bytes of a number exchanged</p>", article)
         self.refused(3, "swing", capture([], swing=0))
         self.refused(4, "frame period", capture([], periods=(1,) * 31 + (0,)))
+        self.refused(13, "rate out of range", rated(QUIET, 0))
+        self.refused(13, "rate out of range", rated(CLEAN, 1_000_000_001))
+
+    def test_a_rate(self):
+        self.put(a=rated(CLEAN, 1_000_000_000), b=CLEAN)
+        page = self.shows()
+        self.assertIn("from 100 to 3,100 cycles</figcaption>", self.article(page, "a"))
+        self.assertIn("from 100 to 3,100 ns</figcaption>", self.article(page, "b"))
 
     def test_an_empty_file(self):
         self.refused(8, "no events (empty file). Nobody captured.", b"")

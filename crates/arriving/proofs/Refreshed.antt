@@ -14,6 +14,7 @@ use Rattle.controller.specs.declared.Uc8253.{Uc8253}
 use Rattle.controller.specs.World.{world, buffers}
 use Rattle.controller.specs.Setters.{withImage}
 use Rattle.controller.specs.Refresh.{walked, published, finished, allFrames, elapsed, copiedAfter, endedRefresh, cutRefresh}
+use Rattle.controller.specs.Counting.{own}
 use Rattle.arriving.specs.InnerSteps.{copiedIf}
 
 -- the picture published, and the old plane after it
@@ -40,13 +41,13 @@ ended-parts r p q old new states numbers picture rows old′ states′ picture�
 
 pub cut-parts : (r : Refresh) (p q : Uc8253) (old new : List ℕ) (states : List ℤ)
     (numbers picture rows : List ℕ) (n : ℕ) (states′ : List ℤ) (picture′ : List ℕ)
-    → n ≡ elapsed p
+    → n ≡ elapsed own p
     → states′ ≡ walked (p .config .optics .«full_swing») (λ k. take n (allFrames p k)) numbers states
     → picture′ ≡ drawn (p .config .optics .«full_swing») states′ picture
     → q ≡ withImage (published (r .kind) true (p .now) p) p
-    → world q (buffers old new states′ numbers picture′ rows) ≡ cutRefresh r (world p (buffers old new states numbers picture rows))
+    → world q (buffers old new states′ numbers picture′ rows) ≡ cutRefresh own r (world p (buffers old new states numbers picture rows))
 unfolding cutRefresh finished
 cut-parts r p q old new states numbers picture rows n states′ picture′ e₀ e₁ e₂ e₃ =
-    let e : states′ ≡ walked (p .config .optics .«full_swing») (λ k. take (elapsed p) (allFrames p k)) numbers states =
+    let e : states′ ≡ walked (p .config .optics .«full_swing») (λ k. take (elapsed own p) (allFrames p k)) numbers states =
     e₁ ∙ ap (λ (m : ℕ). walked (p .config .optics .«full_swing») (λ k. take m (allFrames p k)) numbers states) e₀ in
     (λ i. world (e₃ i) (buffers old new (e i) numbers ((e₂ ∙ ap (λ (l : List ℤ). drawn (p .config .optics .«full_swing») l picture) e) i) rows))

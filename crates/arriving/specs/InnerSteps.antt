@@ -19,6 +19,7 @@ use Rattle.controller.specs.Lent.{Slice}
 use Rattle.controller.specs.Arrives.{rest, starting}
 use Rattle.controller.specs.Command.{closed}
 use Rattle.controller.specs.Reset.{cut, cleared}
+use Rattle.controller.specs.Counting.{own}
 
 -- 7, or 0
 unfoldable pub seven : ℕ → List ℤ → List ℕ → ℕ
@@ -34,10 +35,10 @@ fallenAsleep p = withOperation rest (withPower power.Asleep (withPowered false p
 
 -- out of reset, the line falls; in reset, it rises
 abbrev pub fallen : World → World
-fallen w = onChip cleared (closed (cut w))
+fallen w = onChip cleared (closed (cut own w))
 
 abbrev pub risen : Uc8253 → Uc8253
-risen p = starting work.HardwareReset (p .config .timing .«hardware_reset») (withPower power.Running p)
+risen p = starting own work.HardwareReset (p .config .timing .«hardware_reset») (withPower power.Running p)
 
 -- what driving asks: of the swing, and of the states
 abbrev pub SwingFits : Uc8253 → Type 0

@@ -14,6 +14,7 @@ ghost use Rattle.controller.specs.World.{world};
 ghost use Rattle.base.specs.RefusalNumbers.{refusalNumber};
 ghost use Rattle.controller.specs.Ask as ask;
 ghost use Rattle.controller.specs.Lent.{lent, Turns, Gives, Called};
+ghost use Rattle.controller.specs.Counting.{own};
 use base::Refusal;
 use controller::Answer;
 use controller::Uc8253;
@@ -86,7 +87,7 @@ fn reset_at(
     rows: &mut [u64],
 ) -> Uc8253
     requires { ⌜ turnedBack asserted at (world p (lent old new states numbers picture rows)) ≡ 0 ⌝ }
-    ensures { λ r. ⌜ Turns (λ w. resetEdge asserted (arrived at w)) p r old new states numbers picture rows ⌝ }
+    ensures { λ r. ⌜ Turns (λ w. resetEdge own asserted (arrived at w)) p r old new states numbers picture rows ⌝ }
 {
     let q = arrive(p, at, old, new, states, numbers, picture);
     reset_edge(q, asserted, states, numbers, picture, rows)

@@ -11,6 +11,7 @@ ghost use Rattle.pixels.specs.States.{most, everyState};
 ghost use Rattle.controller.specs.Setters.{withImage};
 ghost use Rattle.controller.specs.Refresh as rule;
 ghost use Rattle.controller.specs.Lent.{kept, Turns};
+ghost use Rattle.controller.specs.Counting.{own};
 use base::saturating_add;
 use controller::Refresh;
 use controller::Uc8253;
@@ -21,8 +22,8 @@ use pixels::draw;
 use pixels::drive;
 use ram::copy_new_to_old;
 use registers::Area;
+use rules::elapsed;
 use waveform::Waveform;
-use waveform::whole_frames;
 
 // Every state walks all frames of its table.
 fn drive_whole(waveform: Waveform, optics: Optics, states: &mut [i64], numbers: &[u8])
@@ -117,12 +118,12 @@ pub(crate) fn finish_cut(
 ) -> Uc8253
     requires { ⌜ steps.SwingFits p × steps.StatesFit p states ⌝ }
     ensures { λ r. ⌜ ((old new rows : List ℕ)
-        → Turns (rule.cutRefresh refresh) p r (kept old) (kept new) states numbers picture (kept rows)) ⌝ }
+        → Turns (rule.cutRefresh own refresh) p r (kept old) (kept new) states numbers picture (kept rows)) ⌝ }
 {
     let config = p.config;
     let optics = config.optics;
     let waveform = p.waveform;
-    let n = whole_frames(p.now, p.operation.started, p.waveform.frame_ns);
+    let n = elapsed(p, p.now);
     drive_first(waveform, optics, n, states, numbers);
     draw(picture, states, optics.full_swing);
     let kind = refresh.kind;

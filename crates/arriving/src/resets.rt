@@ -7,6 +7,7 @@ ghost use Prim.Native.Nat.{ℕ};
 ghost use Rattle.controller.specs.TurnedBack.{refreshRuns, cuts};
 ghost use Rattle.controller.specs.Reset as rule;
 ghost use Rattle.controller.specs.Lent.{kept, Turns};
+ghost use Rattle.controller.specs.Counting.{own};
 use crate::refreshes::finish_cut;
 use controller::Current;
 use controller::Mode;
@@ -31,7 +32,7 @@ fn cut(
     rows: &mut [u64],
 ) -> Uc8253
     requires { ⌜ steps.SwingFits p × (refreshRuns (p .operation .work) ≡ true → steps.StatesFit p states) ⌝ }
-    ensures { λ r. ⌜ ((old new : List ℕ) → Turns rule.cut p r (kept old) (kept new) states numbers picture rows) ⌝ }
+    ensures { λ r. ⌜ ((old new : List ℕ) → Turns (rule.cut own) p r (kept old) (kept new) states numbers picture rows) ⌝ }
 {
     let operation = p.operation;
     let work = operation.work;
@@ -118,7 +119,7 @@ pub(crate) fn reset_edge(
 ) -> Uc8253
     requires { ⌜ steps.SwingFits p × (refreshRuns (p .operation .work) ≡ true
         → cuts (p .mode .power) asserted ≡ true → steps.StatesFit p states) ⌝ }
-    ensures { λ r. ⌜ ((old new : List ℕ) → Turns (rule.resetEdge asserted) p r (kept old) (kept new) states numbers picture rows) ⌝ }
+    ensures { λ r. ⌜ ((old new : List ℕ) → Turns (rule.resetEdge own asserted) p r (kept old) (kept new) states numbers picture rows) ⌝ }
 {
     let mode = p.mode;
     let power = mode.power;

@@ -14,7 +14,7 @@ abbrev words : List Refusal
 words =
     refusal.Nothing ∷ refusal.EmptyPanel ∷ refusal.OversizedPanel ∷ refusal.Swing ∷ refusal.FramePeriod ∷ refusal.BufferLength
     ∷ refusal.ForeignRecord ∷ refusal.ForeignContents ∷ refusal.BrokenCapture ∷ refusal.BadEvent ∷ refusal.TooManyPixels
-    ∷ refusal.MalformedDump ∷ refusal.WrongSignals ∷ []
+    ∷ refusal.MalformedDump ∷ refusal.WrongSignals ∷ refusal.ClockRate ∷ []
 
 abbrev word : ℕ → Refusal
 word n = getD words n refusal.Nothing
@@ -33,6 +33,7 @@ word-number refusal.BadEvent = refl
 word-number refusal.TooManyPixels = refl
 word-number refusal.MalformedDump = refl
 word-number refusal.WrongSignals = refl
+word-number refusal.ClockRate = refl
 
 pub number-one-to-one : (r s : Refusal) → refusalNumber r ≡ refusalNumber s → r ≡ s
 number-one-to-one r s e = sym (word-number r) ∙ ap word e ∙ word-number s

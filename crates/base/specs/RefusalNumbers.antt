@@ -18,3 +18,4 @@ refusalNumber refusal.BadEvent = 9
 refusalNumber refusal.TooManyPixels = 10
 refusalNumber refusal.MalformedDump = 11
 refusalNumber refusal.WrongSignals = 12
+refusalNumber refusal.ClockRate = 13

@@ -18,6 +18,7 @@ pub enum Refusal {
     TooManyPixels,
     MalformedDump,
     WrongSignals,
+    ClockRate,
 }
 
 impl Refusal {
@@ -39,6 +40,7 @@ impl Refusal {
             Refusal::TooManyPixels => 10,
             Refusal::MalformedDump => 11,
             Refusal::WrongSignals => 12,
+            Refusal::ClockRate => 13,
         }
     }
 

@@ -1,8 +1,9 @@
 -- The order in which a capture is turned back, and what holds of one that is taken: exactly if it meets none of the refusals.
--- 6,521 events fit, 6,522 do not. 10 comes last, and only the program has it.
+-- 6,521 events fit, 6,522 do not, and with a rate one fewer. 10 comes last, and only the program has it.
 use mathlib.Core.Path.{_≡_, refl, sym, _∙_}
 use mathlib.Core.Bool.{Bool, true, false, _||_, not, true≢false}
 use mathlib.Core.List.{List}
+use mathlib.Core.Logic.{_⊎_, inl, inr, ⊎-elim}
 use Prim.Native.Nat.{ℕ, _+_, _*_, _≤_, _<_, zero-le}
 use native.Mathlib.Omega.{arith}
 use lib.Dec.{eqb, ltb}
@@ -11,12 +12,12 @@ use lib.Seq.{getD-take}
 use borrow.Author.Tests.{ltb-false, eqb-true, eqb-false, le-ltb, eq-eqb, ne-eqb, not-false}
 use Rattle.base.proofs.Cases.{by-cases}
 use Rattle.config.specs.Refusal.{refusal}
-use Rattle.capture.specs.Layout.{kindAt, valueAt, variantAt, flagsAt, offsetOf, countOf, configIn, pixelCount}
+use Rattle.capture.specs.Layout.{kindAt, valueAt, variantAt, flagsAt, offsetOf, countOf, rated, configIn, pixelCount}
 use Rattle.capture.specs.Refused.{broken, badConfig, badEvent, fileRefused, tooMany, captureRefused, Taken}
 use Rattle.capture.specs.Reading.{eventsEnd, eventsOf}
 use Rattle.capture.proofs.ListedLaws.{each-listed, listed-all}
 
--- ---- the order: 8, 9, 1 to 4; of the program then 10
+-- ---- the order: 8, 9, 1 to 4 and 13; of the program then 10
 module _ (file : List ℕ) where
   pub broken-first : broken file ≡ true → fileRefused file ≡ 8
   unfolding fileRefused
@@ -72,10 +73,17 @@ pub record Whole (file : List ℕ) : Type 0 where
   pub least : 320 ≤ length file
   pub most : length file ≤ 65536
   pub offset-is : offsetOf file ≡ 10 * countOf file
-  pub length-is : length file ≡ offsetOf file + 320
+  pub length-is : (length file ≡ offsetOf file + 320) ⊎ (length file ≡ offsetOf file + 328)
+
+pub either-length : (bytes offset : ℕ) → (eqb bytes (offset + 320) || eqb bytes (offset + 328)) ≡ true
+    → (bytes ≡ offset + 320) ⊎ (bytes ≡ offset + 328)
+either-length bytes offset e =
+    by-cases (eqb bytes (offset + 320))
+    (λ plain. inl (eqb-true _ _ plain))
+    (λ more. inr (eqb-true _ _ (rw more at e)))
 
 pub whole : (file : List ℕ) → broken file ≡ false → Whole file
-unfolding broken
+unfolding broken rated
 whole file b =
     let short = neither (ltb (length file) 320) _ b in
     let long = neither (ltb 65536 (length file)) _ (short .1) in
@@ -84,12 +92,26 @@ whole file b =
       least = ltb-false _ _ (short .0);
       most = ltb-false _ _ (long .0);
       offset-is = eqb-true _ _ (not-false _ (tail .0));
-      length-is = eqb-true _ _ (not-false _ (tail .1));
+      length-is = either-length (length file) (offsetOf file) (not-false _ (tail .1));
     }
+
+one-length : (file : List ℕ) → (length file ≡ offsetOf file + 320) ⊎ (length file ≡ offsetOf file + 328)
+    → (eqb (length file) (offsetOf file + 320) || rated file) ≡ true
+unfolding rated
+one-length file (inl e) = simp (eq-eqb _ _ e)
+one-length file (inr e) = rw (eq-eqb _ _ e) (or-true (eqb (length file) (offsetOf file + 320)))
+  where
+    or-true : (a : Bool) → (a || true) ≡ true
+    or-true true = refl
+    or-true false = refl
 
 pub unbroken : (file : List ℕ) → Whole file → broken file ≡ false
 unfolding broken
-unbroken file w = simp (le-ltb _ _ (w .least), le-ltb _ _ (w .most), eq-eqb _ _ (w .offset-is), eq-eqb _ _ (w .length-is))
+unbroken file w = simp (le-ltb _ _ (w .least), le-ltb _ _ (w .most), eq-eqb _ _ (w .offset-is), one-length file (w .length-is))
+
+-- 320 bytes at least lie behind the events
+pub behind : (file : List ℕ) → (length file ≡ offsetOf file + 320) ⊎ (length file ≡ offsetOf file + 328) → offsetOf file + 320 ≤ length file
+behind file = ⊎-elim (λ e. omega (arith, e)) (λ e. omega (arith, e))
 
 -- (1) a file that is not refused has all of it
 pub taken : (file : List ℕ) → fileRefused file ≡ 0 → Taken file
@@ -104,7 +126,7 @@ taken file z =
       most = w .most;
       offset-is = w .offset-is;
       length-is = w .length-is;
-      count-most = omega (arith, w .most, w .offset-is, w .length-is);
+      count-most = omega (arith, w .most, w .offset-is, behind file (w .length-is));
       variant-most = ltb-false _ _ (config .0);
       flags-most = ltb-false _ _ (config .1);
       events-listed = each-listed file (countOf file) (not-false _ (both .1));
@@ -150,7 +172,7 @@ events-within file =
     by-cases (eqb (fileRefused file) 0)
     (λ z.
     let t = taken file (eqb-true _ _ z) in
-    rw z (omega (arith, t .offset-is, t .length-is)))
+    rw z (omega (arith, t .offset-is, behind file (t .length-is))))
     (λ z. rw z zero-le)
 
 -- those of a file that is taken end where its configuration begins
@@ -182,4 +204,14 @@ too-many-events file h =
     (broken-first file)
     (λ b.
     let w = whole file b in
-    absurd (omega (arith, w .most, w .offset-is, w .length-is)))
+    absurd (omega (arith, w .most, w .offset-is, behind file (w .length-is))))
+
+-- and with a rate 6,521 do not
+pub too-many-rated : (file : List ℕ) → rated file ≡ true → 6521 ≤ countOf file → fileRefused file ≡ 8
+unfolding rated
+too-many-rated file r h =
+    by-cases (broken file)
+    (broken-first file)
+    (λ b.
+    let w = whole file b in
+    absurd (omega (arith, w .most, w .offset-is, eqb-true (length file) (offsetOf file + 328) r)))

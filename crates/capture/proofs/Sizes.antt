@@ -1,18 +1,24 @@
--- 6,521 events fit and 6,522 do not: the example's configuration behind n advances is taken exactly if n is at most 6,521.
+-- 6,521 events fit and 6,522 do not, and with a rate 6,520 and 6,521: the example's configuration behind n advances is taken exactly if n
+-- is at most that.
 use mathlib.Core.Path.{_≡_, refl, sym, ap, _∙_}
-use mathlib.Core.Bool.{true, false}
+use mathlib.Core.Bool.{Bool, true, false}
 use mathlib.Core.List.{List, [], _∷_, _++_}
+use mathlib.Core.Logic.{_⊎_, inl, inr}
 use Prim.Native.Nat.{ℕ, zero, suc, _+_, _-_, _*_, _/_, _%_, _≤_, _<_}
 use native.Mathlib.Omega.{arith}
 use lib.ListN.{length, getD, replicate, length-append}
 use lib.Seq.{getD-append-add}
 use borrow.Author.Tests.{lt-ltb, le-ltb}
+use Rattle.base.specs.Pick.{pick}
+use Rattle.clock.specs.Clock.{billion, badRate}
+use Rattle.config.specs.declared.Uc8253Config.{Uc8253Config}
 use Rattle.config.specs.declared.Variant.the-variants.{Uc8253}
-use Rattle.config.specs.Refusal.{refusal, emptyPanel, oversizedPanel, swingRefused, periodRefused}
+use Rattle.config.specs.Refusal.{refusal, emptyPanel, oversizedPanel, swingRefused, periodRefused, rateRefused}
 use Rattle.capture.specs.Little.{little}
-use Rattle.capture.specs.Layout.{kindAt, valueAt, configOf, configIn, offsetOf, countOf}
+use Rattle.capture.specs.Layout.{kindAt, valueAt, configBy, configIn, offsetOf, countOf}
 use Rattle.capture.specs.Refused.{broken, listed, fileRefused, captureRefused}
-use Rattle.capture.proofs.Placed.{byte-behind, first-behind, little-behind, config-behind}
+use Rattle.capture.proofs.Placed.{byte-behind, little-behind}
+use Rattle.capture.proofs.RateLaws.{parts-length, parts-offset, parts-byte, plain-config, rated-config}
 use Rattle.capture.proofs.CaptureLaws.{takes, program-takes, broken-refused}
 
 -- ---- the files
@@ -40,14 +46,27 @@ abbrev example : List ℕ
 example =
     0 ∷ 4 ∷ 8 ∷ 0 ∷ 1 ∷ 0 ∷ 0 ∷ 0 ∷ 0x00 ∷ 0x3f ∷ 0xab ∷ 0x01 ∷ 0 ∷ 0 ∷ 0 ∷ 0 ∷ (eight 100 ++ times 4 (eight 0) ++ times 32 (eight 1000))
 
-abbrev pub tail : ℕ → List ℕ
-tail n = example ++ four (10 * n) ++ four n
+-- with a rate, 32,768 Hz, or without
+abbrev rateBytes : Bool → List ℕ
+rateBytes true = eight 32_768
+rateBytes false = []
 
-abbrev pub file : ℕ → List ℕ
-file n = advances n ++ tail n
+abbrev hertz : Bool → ℕ
+hertz rate = pick rate 32_768 billion
+
+-- how many events fit
+abbrev pub fit : Bool → ℕ
+fit rate = pick rate 6520 6521
+
+abbrev trailer : ℕ → List ℕ
+trailer n = four (10 * n) ++ four n
+
+abbrev pub file : Bool → ℕ → List ℕ
+file rate n = advances n ++ (example ++ (rateBytes rate ++ trailer n))
 
 -- the example, decoded
-pub example-config : (n : ℕ) → configOf (tail n) 0 ≡ record {
+abbrev pub exampleConfig : Bool → Uc8253Config
+exampleConfig rate = record {
   variant = Uc8253;
   panel = record { sources = 8; gates = 1; «rows_reversed» = false; «columns_reversed» = false };
   optics = record { «full_swing» = 28_000_000; «positive_drives_black» = true; «initial_gray» = 0 };
@@ -58,18 +77,23 @@ pub example-config : (n : ℕ) → configOf (tail n) 0 ≡ record {
     «soft_reset» = 0;
     «hardware_reset» = 0;
     «frame_period» = replicate 32 1_000;
+    rate = hertz rate;
   };
   «ambient_celsius» = 0;
 }
-example-config n = refl
+
+pub example-config : (rate : Bool) → configBy (hertz rate) example 0 ≡ exampleConfig rate
+example-config rate = refl
+
+example-accepted : (rate : Bool) → refusal (exampleConfig rate) ≡ 0
+unfolding refusal emptyPanel oversizedPanel swingRefused periodRefused rateRefused badRate
+example-accepted true = refl
+example-accepted false = refl
 
 -- ---- their parts
 length-advances : (n : ℕ) → length (advances n) ≡ 10 * n
 length-advances zero = refl
 length-advances (suc n) = omega (arith, length-advances n)
-
-length-file : (n : ℕ) → length (file n) ≡ 10 * n + 320
-length-file n = length-append (advances n) (tail n) ∙ ap (λ (m : ℕ). m + 320) (length-advances n)
 
 event-at : (n i : ℕ) (ys : List ℕ) → i < n → (kindAt (advances n ++ ys) i ≡ 5) × (valueAt (advances n ++ ys) i ≡ 0)
 event-at zero i ys h = absurd (omega arith)
@@ -83,54 +107,86 @@ event-at (suc n) (suc i) ys h =
       ap (λ (p : ℕ). getD (advance ++ l) p 0) value ∙ getD-append-add advance l (10 * i + 9) 0 ∙ next .1,
     )
 
-module _ (n : ℕ) (h : n ≤ 6521) where
-  offset-file : offsetOf (file n) ≡ 10 * n
-  unfolding offsetOf
-  offset-file =
-      let place : length (file n) - 8 ≡ length (advances n) + 312 = omega (arith, length-file n, length-advances n) in
-      let read : little (tail n) 312 4 ≡ 10 * n = omega arith in
-      ap (λ (p : ℕ). little (file n) p 4) place ∙ little-behind (advances n) (tail n) 312 4 ∙ read
+length-file : (rate : Bool) (n : ℕ) → length (file rate n) ≡ 10 * n + (320 + length (rateBytes rate))
+length-file rate n =
+    omega (
+      arith,
+      length-advances n,
+      length-append (advances n) (example ++ (rateBytes rate ++ trailer n)),
+      length-append example (rateBytes rate ++ trailer n),
+      length-append (rateBytes rate) (trailer n),
+    )
 
-  count-file : countOf (file n) ≡ n
+module _ (rate : Bool) (n : ℕ) (h : n ≤ 6521) where
+  points : little (trailer n) 0 4 ≡ length (advances n)
+  points =
+      let read : little (trailer n) 0 4 ≡ 10 * n = omega arith in
+      read ∙ sym (length-advances n)
+
+  offset-file : offsetOf (file rate n) ≡ 10 * n
+  offset-file = parts-offset (advances n) example (rateBytes rate) (trailer n) refl refl points ∙ length-advances n
+
+  count-file : countOf (file rate n) ≡ n
   unfolding countOf
   count-file =
-      let place : length (file n) - 4 ≡ length (advances n) + 316 = omega (arith, length-file n, length-advances n) in
-      let read : little (tail n) 316 4 ≡ n = omega arith in
-      ap (λ (p : ℕ). little (file n) p 4) place ∙ little-behind (advances n) (tail n) 316 4 ∙ read
+      let place : length (file rate n) - 4 ≡ length (advances n) + (312 + (length (rateBytes rate) + 4)) =
+      omega (arith, length-file rate n, length-advances n) in
+      let read : little (trailer n) 4 4 ≡ n = omega arith in
+      ap (λ (p : ℕ). little (file rate n) p 4) place
+      ∙ little-behind (advances n) (example ++ (rateBytes rate ++ trailer n)) (312 + (length (rateBytes rate) + 4)) 4
+      ∙ little-behind example (rateBytes rate ++ trailer n) (length (rateBytes rate) + 4) 4
+      ∙ little-behind (rateBytes rate) (trailer n) 4 4
+      ∙ read
 
-  offset-length : offsetOf (file n) ≡ length (advances n)
-  offset-length = offset-file ∙ sym (length-advances n)
+  byte-file : (p : ℕ) → p < 312 → getD (file rate n) (offsetOf (file rate n) + p) 0 ≡ getD example p 0
+  byte-file = parts-byte (advances n) example (rateBytes rate) (trailer n) refl refl points
 
-  config-file : configIn (file n) ≡ configOf (tail n) 0
-  unfolding configIn
-  config-file = ap (configOf (file n)) offset-length ∙ config-behind (advances n) (tail n)
+config-file : (rate : Bool) (n : ℕ) → n ≤ 6521 → configIn (file rate n) ≡ exampleConfig rate
+config-file true n h = rated-config (advances n) example (eight 32_768) (trailer n) refl refl refl (points true n h) ∙ example-config true
+config-file false n h = plain-config (advances n) example (trailer n) refl refl (points false n h) ∙ example-config false
 
-  accepted : refusal (configOf (tail n) 0) ≡ 0
-  unfolding refusal emptyPanel oversizedPanel swingRefused periodRefused
-  accepted = refl
+length-fits : (rate : Bool) (n : ℕ) → n ≤ 6521
+    → (length (file rate n) ≡ offsetOf (file rate n) + 320) ⊎ (length (file rate n) ≡ offsetOf (file rate n) + 328)
+length-fits true n h = inr (omega (arith, length-file true n, offset-file true n h))
+length-fits false n h = inl (omega (arith, length-file false n, offset-file false n h))
 
-  -- at most 6,521: taken, and played
-  pub file-taken : fileRefused (file n) ≡ 0
+-- ---- as many as fit: taken, and played
+bounds : (rate : Bool) (n : ℕ) → n ≤ fit rate → (n ≤ 6521) × (length (file rate n) ≤ 65536)
+bounds true n h = (omega (arith, h), omega (arith, h, length-file true n))
+bounds false n h = (omega (arith, h), omega (arith, h, length-file false n))
+
+module _ (rate : Bool) (n : ℕ) (h : n ≤ fit rate) where
+  few : n ≤ 6521
+  few = bounds rate n h .0
+
+  first : offsetOf (file rate n) ≡ offsetOf (file rate n) + 0
+  first = omega arith
+
+  pub file-taken : fileRefused (file rate n) ≡ 0
   unfolding listed
-  file-taken = takes (file n) (record {
-    least = omega (arith, length-file n);
-    most = omega (arith, length-file n);
-    offset-is = offset-file ∙ ap (λ (m : ℕ). 10 * m) (sym count-file);
-    length-is = length-file n ∙ ap (λ (m : ℕ). m + 320) (sym offset-file);
-    count-most = omega (arith, count-file);
-    variant-most = rw (offset-length, first-behind (advances n) (tail n)) (omega arith);
-    flags-most = rw (offset-length, byte-behind (advances n) (tail n) 1) (omega arith);
-    events-listed = λ i l. (let e = event-at n i (tail n) (omega (arith, count-file)) in rw (e .0, e .1));
-    config-taken = ap refusal config-file ∙ accepted;
+  file-taken = takes (file rate n) (record {
+    least = omega (arith, length-file rate n);
+    most = bounds rate n h .1;
+    offset-is = offset-file rate n few ∙ ap (λ (m : ℕ). 10 * m) (sym (count-file rate n few));
+    length-is = length-fits rate n few;
+    count-most = omega (arith, few, count-file rate n few);
+    variant-most = rw (first, byte-file rate n few 0 (omega arith)) (omega arith);
+    flags-most = rw (byte-file rate n few 1 (omega arith)) (omega arith);
+    events-listed = λ i l.
+        (let e = event-at n i (example ++ (rateBytes rate ++ trailer n)) (omega (arith, l, count-file rate n few)) in rw (e .0, e .1));
+    config-taken = ap refusal (config-file rate n few) ∙ example-accepted rate;
   })
 
-  pub file-played : captureRefused (file n) ≡ 0
-  file-played = program-takes (file n) file-taken (rw (config-file) (omega arith))
+  pub file-played : captureRefused (file rate n) ≡ 0
+  file-played = program-takes (file rate n) file-taken (rw (config-file rate n few) (omega arith))
 
 -- beyond: refusal 8
-pub file-refused : (n : ℕ) → 6521 < n → captureRefused (file n) ≡ 8
+long : (rate : Bool) (n : ℕ) → fit rate < n → 65536 < length (file rate n)
+long true n h = omega (arith, h, length-file true n)
+long false n h = omega (arith, h, length-file false n)
+
+pub file-refused : (rate : Bool) (n : ℕ) → fit rate < n → captureRefused (file rate n) ≡ 8
 unfolding broken
-file-refused n h =
-    let long : 65536 < length (file n) = omega (arith, length-file n) in
-    let least : 320 ≤ length (file n) = omega (arith, length-file n) in
-    broken-refused (file n) (simp (le-ltb _ _ least, lt-ltb _ _ long))
+file-refused rate n h =
+    let least : 320 ≤ length (file rate n) = omega (arith, length-file rate n) in
+    broken-refused (file rate n) (simp (le-ltb _ _ least, lt-ltb _ _ (long rate n h)))

@@ -1,10 +1,12 @@
--- Document 01, "The capture program": events of 10 bytes, 312 bytes of configuration, and a trailer of 8 that points back.
+-- Document 01, "The capture program": events of 10 bytes, 312 bytes of configuration, and a trailer of 8 that points back;
+-- request 2026-05: 8 bytes more of configuration for the rate.
 use mathlib.Core.Bool.{Bool}
 use mathlib.Core.List.{List, [], _∷_, _++_}
 use Prim.Native.Nat.{ℕ, zero, suc, _+_, _-_, _*_, _/_, _%_, _^_}
 use lib.Dec.{eqb}
 use lib.ListN.{length, getD}
 use Rattle.base.specs.Pick.{pick}
+use Rattle.clock.specs.Clock.{billion}
 use Rattle.glass.specs.declared.Optics.{Optics}
 use Rattle.config.specs.declared.Variant.{Variant}
 use Rattle.config.specs.declared.Variant.the-variants.{Uc8253, Uc8279d}
@@ -57,37 +59,50 @@ abbrev pub periodsOf : List ℕ → ℕ → ℕ → List ℕ
 periodsOf file at zero = []
 periodsOf file at (suc n) = periodsOf file at n ++ little file (at + 56 + 8 * n) 8 ∷ []
 
--- power on, power off, deep sleep, soft reset, hardware reset (8 each), 32 periods
-abbrev pub timingOf : List ℕ → ℕ → Uc8253Timing
-timingOf file at = record {
+-- power on, power off, deep sleep, soft reset, hardware reset (8 each), 32 periods; a clock of this rate
+abbrev pub timingBy : ℕ → List ℕ → ℕ → Uc8253Timing
+timingBy rate file at = record {
   «power_on» = little file (at + 16) 8;
   «power_off» = little file (at + 24) 8;
   «deep_sleep» = little file (at + 32) 8;
   «soft_reset» = little file (at + 40) 8;
   «hardware_reset» = little file (at + 48) 8;
   «frame_period» = periodsOf file at 32;
+  rate = rate;
 }
 
 -- the whole, with the ambient byte
-abbrev pub configOf : List ℕ → ℕ → Uc8253Config
-configOf file at = record {
+abbrev pub configBy : ℕ → List ℕ → ℕ → Uc8253Config
+configBy rate file at = record {
   variant = variantOf (variantAt file at);
   panel = panelOf file at;
   optics = opticsOf file at;
-  timing = timingOf file at;
+  timing = timingBy rate file at;
   «ambient_celsius» = getD file (at + 7) 0;
 }
 
--- the trailer, at the file's end: offset of the 312 bytes (4), event count (4)
+-- 312 bytes by themselves mean 1 GHz (2026-05)
+abbrev pub configOf : List ℕ → ℕ → Uc8253Config
+configOf file at = configBy billion file at
+
+-- the trailer, at the file's end: offset of the configuration (4), event count (4)
 unfoldable pub offsetOf : List ℕ → ℕ
 offsetOf file = little file (length file - 8) 4
 
 unfoldable pub countOf : List ℕ → ℕ
 countOf file = little file (length file - 4) 4
 
+-- the configuration has 320 bytes: the file's length tells (2026-05)
+unfoldable pub rated : List ℕ → Bool
+rated file = eqb (length file) (offsetOf file + 328)
+
+-- then its last 8 are the rate, else the rate is 1 GHz
+unfoldable pub rateIn : List ℕ → ℕ
+rateIn file = pick (rated file) (little file (offsetOf file + 312) 8) billion
+
 -- the configuration where the trailer points
 unfoldable pub configIn : List ℕ → Uc8253Config
-configIn file = configOf file (offsetOf file)
+configIn file = configBy (rateIn file) file (offsetOf file)
 
 abbrev pub pixelCount : Uc8253Config → ℕ
 pixelCount c = c .panel .sources * c .panel .gates

@@ -1,22 +1,25 @@
--- Document 01, "Making a panel, and being turned back", 8 to 10: what turns a capture back, in the program's order 8, 9, 1 to 4, 10.
+-- Document 01, "Making a panel, and being turned back", 8 to 10, and request 2026-05: what turns a capture back, in the program's
+-- order 8, 9, 1 to 4, 13, 10.
 use mathlib.Core.Path.{_≡_}
 use mathlib.Core.Bool.{Bool, true, false, _||_, _&&_, not}
 use mathlib.Core.List.{List}
+use mathlib.Core.Logic.{_⊎_}
 use Prim.Native.Nat.{ℕ, zero, suc, _+_, _*_, _≤_, _<_}
 use lib.Dec.{eqb, ltb, leb}
 use lib.ListN.{length}
 use Rattle.base.specs.Pick.{pick}
 use Rattle.config.specs.declared.Uc8253Config.{Uc8253Config}
 use Rattle.config.specs.Refusal.{refusal}
-use Rattle.capture.specs.Layout.{kindAt, valueAt, variantAt, flagsAt, offsetOf, countOf, configIn, pixelCount}
+use Rattle.capture.specs.Layout.{kindAt, valueAt, variantAt, flagsAt, offsetOf, countOf, rated, configIn, pixelCount}
 
--- 8, broken capture: file under 320 or over 65,536 bytes, trailer offset not 10 × its count, or file length not offset + 320
+-- 8, broken capture: file under 320 or over 65,536 bytes, trailer offset not 10 × its count, or file length neither
+-- offset + 320 nor offset + 328
 unfoldable pub broken : List ℕ → Bool
 broken file =
     ltb (length file) 320
     || (ltb 65536 (length file)
     || (not (eqb (offsetOf file) (10 * countOf file))
-    || not (eqb (length file) (offsetOf file + 320))))
+    || not (eqb (length file) (offsetOf file + 320) || rated file)))
 
 -- the events listed: 1 command, 2 data, 3 read (0), 4 reset (1 asserted, 0 released), 5 advance (0)
 unfoldable pub listed : ℕ → ℕ → Bool
@@ -40,7 +43,7 @@ badConfig file at = ltb 1 (variantAt file at) || ltb 7 (flagsAt file at)
 unfoldable pub badEvent : List ℕ → Bool
 badEvent file = badConfig file (offsetOf file) || not (allListed file (countOf file))
 
--- the number of the first of 8, 9 and 1 to 4 that a file meets, 0 if it meets none
+-- the number of the first of 8, 9, 1 to 4 and 13 that a file meets, 0 if it meets none
 unfoldable pub fileRefused : List ℕ → ℕ
 fileRefused file = pick (broken file) 8 (pick (badEvent file) 9 (refusal (configIn file)))
 
@@ -57,7 +60,7 @@ pub record Taken (file : List ℕ) : Type 0 where
   pub least : 320 ≤ length file
   pub most : length file ≤ 65536
   pub offset-is : offsetOf file ≡ 10 * countOf file
-  pub length-is : length file ≡ offsetOf file + 320
+  pub length-is : (length file ≡ offsetOf file + 320) ⊎ (length file ≡ offsetOf file + 328)
   pub count-most : countOf file ≤ 6521
   pub variant-most : variantAt file (offsetOf file) ≤ 1
   pub flags-most : flagsAt file (offsetOf file) ≤ 7

@@ -7,6 +7,7 @@ ghost use Rattle.capture.specs.Layout as spec;
 ghost use Rattle.capture.specs.InnerTrailer.{Trails};
 use crate::words::byte;
 use crate::words::number;
+use clock::BILLION;
 use config::FRAME_RATE_CODES;
 use config::Uc8253Config;
 use config::Uc8253Geometry;
@@ -44,6 +45,11 @@ const HARDWARE_RESET: usize = 48;
 
 const PERIODS: usize = 56;
 
+const RATE: usize = 312;
+
+// Bytes after the events: a configuration with a rate, and the trailer.
+const RATED_TAIL: u64 = 328;
+
 // The flags by weight.
 const ROWS_REVERSED: u8 = 1;
 
@@ -51,7 +57,7 @@ const COLUMNS_REVERSED: u8 = 2;
 
 const POSITIVE_DRIVES_BLACK: u8 = 4;
 
-// The trailer: the offset of the 312 bytes, and how many events there are.
+// The trailer: the offset of the configuration, and how many events there are.
 pub(crate) struct Trailer {
     pub offset: u64,
     pub count: u64,
@@ -131,9 +137,9 @@ fn periods(file: &[u8], at: usize) -> [u64; FRAME_RATE_CODES]
     periods
 }
 
-fn timing(file: &[u8], at: usize) -> Uc8253Timing
+fn timing(file: &[u8], at: usize, rate: u64) -> Uc8253Timing
     requires { ⌜ at < 4_294_967_296 ⌝ }
-    ensures { λ r. ⌜ r ≡ spec.timingOf (now (file .entry)) at ⌝ }
+    ensures { λ r. ⌜ r ≡ spec.timingBy rate (now (file .entry)) at ⌝ }
 {
     let power_on = number(file, at + POWER_ON, 8);
     let power_off = number(file, at + POWER_OFF, 8);
@@ -148,18 +154,19 @@ fn timing(file: &[u8], at: usize) -> Uc8253Timing
         soft_reset,
         hardware_reset,
         frame_period,
+        rate,
     }
 }
 
-// The 312 bytes from a place on.
-pub(crate) fn config_at(file: &[u8], at: usize) -> Uc8253Config
+// The 312 bytes from a place on, with a rate.
+fn config_at(file: &[u8], at: usize, rate: u64) -> Uc8253Config
     requires { ⌜ at < 4_294_967_296 ⌝ }
-    ensures { λ r. ⌜ r ≡ spec.configOf (now (file .entry)) at ⌝ }
+    ensures { λ r. ⌜ r ≡ spec.configBy rate (now (file .entry)) at ⌝ }
 {
     let variant = variant(byte(file, at, 0));
     let panel = panel(file, at);
     let optics = optics(file, at);
-    let timing = timing(file, at);
+    let timing = timing(file, at, rate);
     let ambient_celsius = byte(file, at, AMBIENT);
     Uc8253Config {
         variant,
@@ -170,11 +177,38 @@ pub(crate) fn config_at(file: &[u8], at: usize) -> Uc8253Config
     }
 }
 
-// The configuration of bytes that are one.
+// The configuration of 312 bytes by themselves, at 1 GHz.
 pub fn config_of(bytes: &[u8]) -> Uc8253Config
     ensures { λ r. ⌜ r ≡ spec.configOf (now (bytes .entry)) 0 ⌝ }
 {
-    config_at(bytes, 0)
+    config_at(bytes, 0, BILLION)
+}
+
+// Whether the configuration ends with a rate, by the file's length.
+pub(crate) fn rated(file: &[u8], t: Trailer) -> bool
+    requires { ⌜ Trails (now file) t ⌝ }
+    ensures { λ r. ⌜ r ≡ spec.rated (now (file .entry)) ⌝ }
+{
+    file.len() as u64 == t.offset + RATED_TAIL
+}
+
+fn rate_in(file: &[u8], t: Trailer) -> u64
+    requires { ⌜ Trails (now file) t ⌝ }
+    ensures { λ r. ⌜ r ≡ spec.rateIn (now (file .entry)) ⌝ }
+{
+    if rated(file, t) {
+        return number(file, t.offset as usize + RATE, 8);
+    }
+    BILLION
+}
+
+// The configuration where this trailer, the file's, points.
+pub(crate) fn config_in(file: &[u8], t: Trailer) -> Uc8253Config
+    requires { ⌜ Trails (now file) t ⌝ }
+    ensures { λ r. ⌜ r ≡ spec.configIn (now (file .entry)) ⌝ }
+{
+    let rate = rate_in(file, t);
+    config_at(file, t.offset as usize, rate)
 }
 
 // The configuration where the trailer points, of any bytes.
@@ -182,7 +216,7 @@ pub fn config(file: &[u8]) -> Uc8253Config
     ensures { λ r. ⌜ r ≡ spec.configIn (now (file .entry)) ⌝ }
 {
     let t = trailer_of(file);
-    config_at(file, t.offset as usize)
+    config_in(file, t)
 }
 
 // The pixels of a panel: sources × gates.

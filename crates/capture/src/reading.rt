@@ -1,6 +1,6 @@
 // A file read once: what comes after is handed its parts.
 ghost use Rattle.capture.specs.Reading.{Reads};
-use crate::layout::config_at;
+use crate::layout::config_in;
 use crate::layout::trailer_of;
 use crate::refusals::EVENT;
 use crate::refusals::refused;
@@ -19,7 +19,7 @@ pub fn read(file: &[u8]) -> Capture
     ensures { λ r. ⌜ Reads (now (file .entry)) r ⌝ }
 {
     let t = trailer_of(file);
-    let config = config_at(file, t.offset as usize);
+    let config = config_in(file, t);
     let refused = refused(file, t, config);
     if refused.none() {
         return Capture {

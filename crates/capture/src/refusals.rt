@@ -1,4 +1,4 @@
-// What turns a capture back: 8, 9, 1 to 4, in this order; and 10, which is the program's alone.
+// What turns a capture back: 8, 9, 1 to 4, 13, in this order; and 10, which is the program's alone.
 ghost use mathlib.Core.Path.{_≡_};
 ghost use Prim.Native.Nat.{_<_};
 ghost use Rattle.base.specs.RefusalNumbers.{refusalNumber};
@@ -12,6 +12,7 @@ use crate::kinds::READ;
 use crate::kinds::RESET;
 use crate::layout::Trailer;
 use crate::layout::pixels;
+use crate::layout::rated;
 use crate::words::byte;
 use base::Refusal;
 use config::Uc8253Config;
@@ -23,7 +24,7 @@ const KIND: usize = 8;
 
 const VALUE: usize = 9;
 
-// Bytes after the events: the configuration and the trailer.
+// Bytes after the events: a configuration without a rate, and the trailer.
 const TAIL: u64 = 320;
 
 // The largest file.
@@ -40,7 +41,7 @@ pub const MOST_PIXELS: usize = 8_000;
 // The most events of a file.
 pub const MOST_EVENTS: usize = 6_521;
 
-// 8: the length is not what the trailer says, or out of range.
+// 8: the length is neither of the two that the trailer says, or out of range.
 fn broken(file: &[u8], t: Trailer) -> bool
     requires { ⌜ Trails (now file) t ⌝ }
     ensures { λ r. ⌜ r ≡ spec.broken (now (file .entry)) ⌝ }
@@ -54,7 +55,10 @@ fn broken(file: &[u8], t: Trailer) -> bool
     if t.offset != EVENT * t.count {
         return true;
     }
-    file.len() as u64 != t.offset + TAIL
+    if file.len() as u64 == t.offset + TAIL {
+        return false;
+    }
+    !rated(file, t)
 }
 
 // Whether document 01 lists the kind, and the value for it.

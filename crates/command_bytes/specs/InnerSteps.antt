@@ -3,7 +3,8 @@ use Prim.Native.Nat.{ℕ}
 use Rattle.command.specs.Kinds.{kindOf}
 use Rattle.controller.specs.World.{World}
 use Rattle.controller.specs.Command.{sortedBy}
+use Rattle.controller.specs.Counting.{own}
 
 -- a command that is not dropped
 abbrev pub accepted : ℕ → World → World
-accepted c w = sortedBy (kindOf c (w .chip .config .variant)) c w
+accepted c w = sortedBy own (kindOf c (w .chip .config .variant)) c w

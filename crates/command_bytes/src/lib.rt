@@ -9,6 +9,7 @@ ghost use Prim.Native.Nat.{ℕ};
 ghost use lib.IntN.{ℤ};
 ghost use Rattle.controller.specs.Command as rule;
 ghost use Rattle.controller.specs.Lent.{kept, Turns, TurnsRows};
+ghost use Rattle.controller.specs.Counting.{own};
 use command::DRF;
 use command::DSP;
 use command::DTM1;
@@ -65,7 +66,7 @@ fn execute(
     rows: &mut [u64],
 ) -> Uc8253
     ensures { λ r. ⌜ ((states : List ℤ) (picture : List ℕ)
-        → Turns (rule.executed command) p r old new (kept states) «table_numbers» (kept picture) rows) ⌝ }
+        → Turns (rule.executed own command) p r old new (kept states) «table_numbers» (kept picture) rows) ⌝ }
 {
     let mut q = p;
     match command {
@@ -147,7 +148,7 @@ fn pass(
     rows: &mut [u64],
 ) -> Uc8253
     ensures { λ r. ⌜ ((states : List ℤ) (picture : List ℕ)
-        → Turns (rule.passed command) p r old new (kept states) «table_numbers» (kept picture) rows) ⌝ }
+        → Turns (rule.passed own command) p r old new (kept states) «table_numbers» (kept picture) rows) ⌝ }
 {
     let mode = p.mode;
     let operation = p.operation;
@@ -171,7 +172,7 @@ pub fn command_byte(
     rows: &mut [u64],
 ) -> Uc8253
     ensures { λ r. ⌜ ((states : List ℤ) (picture : List ℕ)
-        → Turns (rule.commandByte command) p r old new (kept states) «table_numbers» (kept picture) rows) ⌝ }
+        → Turns (rule.commandByte own command) p r old new (kept states) «table_numbers» (kept picture) rows) ⌝ }
 {
     let q = close(p, rows);
     pass(q, command, old, new, table_numbers, rows)

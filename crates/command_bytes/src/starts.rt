@@ -5,7 +5,9 @@ ghost use Prim.Native.Nat.{ℕ};
 ghost use lib.IntN.{ℤ};
 ghost use Rattle.controller.specs.Refresh as rule;
 ghost use Rattle.controller.specs.Lent.{kept, Turns};
+ghost use Rattle.controller.specs.Counting.{own};
 use base::saturating_add;
+use clock::cycles;
 use controller::Note;
 use controller::Operation;
 use controller::Refresh;
@@ -53,7 +55,7 @@ fn kind_by(numbers: &[u8]) -> RefreshKind
 // The refresh starts: each pixel gets the table of its transition.
 fn start_refresh(p: Uc8253, old: &[u8], new: &[u8], table_numbers: &mut [u8]) -> Uc8253
     ensures { λ r. ⌜ ((states : List ℤ) (picture rows : List ℕ)
-        → Turns rule.refreshStarted p r old new (kept states) «table_numbers» (kept picture) (kept rows)) ⌝ }
+        → Turns (rule.refreshStarted own) p r old new (kept states) «table_numbers» (kept picture) (kept rows)) ⌝ }
 {
     let waveform = waveform_now(p);
     let config = p.config;
@@ -68,7 +70,7 @@ fn start_refresh(p: Uc8253, old: &[u8], new: &[u8], table_numbers: &mut [u8]) ->
     let operation = Operation {
         work: Work::Refresh(refresh),
         started: p.now,
-        until: saturating_add(p.now, waveform.duration_ns()),
+        until: saturating_add(p.now, cycles(p.config.timing.rate, waveform.duration_ns())),
     };
     let mut q = p;
     q.waveform = waveform;
@@ -85,7 +87,7 @@ pub(crate) fn refresh(
     rows: &mut [u64],
 ) -> Uc8253
     ensures { λ r. ⌜ ((states : List ℤ) (picture : List ℕ)
-        → Turns rule.refreshed p r old new (kept states) «table_numbers» (kept picture) rows) ⌝ }
+        → Turns (rule.refreshed own) p r old new (kept states) «table_numbers» (kept picture) rows) ⌝ }
 {
     let regs = p.regs;
     let psr = regs.psr;

@@ -5,6 +5,7 @@ use Prim.Native.Nat.{ℕ, _+_, _*_, _/_}
 use lib.Dec.{eqb}
 use Rattle.base.specs.Pick.{pick}
 use Rattle.base.specs.Listed.{listed}
+use Rattle.clock.specs.Clock.{billion}
 use Rattle.glass.specs.Optics as optics
 use Rattle.config.specs.declared.Uc8253Geometry.{Uc8253Geometry}
 use Rattle.config.specs.declared.Uc8253Timing.{Uc8253Timing}
@@ -28,7 +29,7 @@ periodsTo n = listed n ds53
 abbrev pub x3Panel : Uc8253Geometry
 x3Panel = record { sources = 792; gates = 528; «rows_reversed» = true; «columns_reversed» = false }
 
--- 127 ms, 30 ms, 1 ms, 50 µs, 1 ms
+-- 127 ms, 30 ms, 1 ms, 50 µs, 1 ms; a clock of 1 GHz
 abbrev pub x3Timing : Uc8253Timing
 x3Timing = record {
   «power_on» = 127_000_000;
@@ -37,6 +38,7 @@ x3Timing = record {
   «soft_reset» = 50_000;
   «hardware_reset» = 1_000_000;
   «frame_period» = periodsTo 32;
+  rate = billion;
 }
 
 -- the X3 at 25 °C, behind either controller

@@ -3,8 +3,10 @@
 ghost use mathlib.Core.Path.{_≡_};
 ghost use Rattle.config.specs.X3.{ds53, periodsTo, x3Panel, x3Timing, x3, x3Uc8279d};
 ghost use Rattle.base.specs.RefusalNumbers.{refusalNumber};
-ghost use Rattle.config.specs.Refusal.{emptyPanel, oversizedPanel, swingRefused, periodRefused, someZero, refusal};
+ghost use Rattle.config.specs.Refusal.{emptyPanel, oversizedPanel, swingRefused, periodRefused, rateRefused, someZero, refusal};
 use base::Refusal;
+use clock::BILLION;
+use clock::rate_refused;
 use glass::Optics;
 
 // Sources of the controller: the width of each RAM plane, in pixels (DS79: 800 × 600).
@@ -84,6 +86,8 @@ pub struct Uc8253Timing {
     // The period of one frame for each code of `PLL`. ASSUMPTION: DS53's table; code 9, the X3's,
     // is 50 Hz there, and DS79 gives it 80 Hz.
     pub frame_period: [u64; FRAME_RATE_CODES],
+    // The rate of the board's own clock, in Hz: every other time is a count of its cycles (2026-05).
+    pub rate: u64,
 }
 
 // The frame period of a `PLL` code by DS53's table.
@@ -120,6 +124,7 @@ impl Uc8253Timing {
             soft_reset: 50 * MICROSECOND,
             hardware_reset: MILLISECOND,
             frame_period,
+            rate: BILLION,
         }
     }
 }
@@ -211,7 +216,14 @@ impl Uc8253Config {
         some_zero(periods)
     }
 
-    // The first of document 01's refusals 1 to 4 that the configuration meets, if it meets one.
+    // 13: the rate is 0 or above 1,000,000,000 Hz.
+    fn clock_refused(self) -> bool
+        ensures { λ r. ⌜ r ≡ rateRefused self ⌝ }
+    {
+        rate_refused(self.timing.rate)
+    }
+
+    // The first of refusals 1 to 4 and 13 that the configuration meets, if it meets one.
     pub fn validate(self) -> Refusal
         ensures { λ r. ⌜ refusalNumber r ≡ refusal self ⌝ }
     {
@@ -226,6 +238,9 @@ impl Uc8253Config {
         }
         if self.period_refused() {
             return Refusal::FramePeriod;
+        }
+        if self.clock_refused() {
+            return Refusal::ClockRate;
         }
         Refusal::Nothing
     }

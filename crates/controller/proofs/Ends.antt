@@ -11,6 +11,7 @@ use Rattle.pixels.specs.Draw.{drawn}
 use Rattle.controller.specs.declared.Refresh.{Refresh}
 use Rattle.controller.specs.World.{World}
 use Rattle.controller.specs.Refresh.{walked, published, finished, allFrames, elapsed, copiedAfter, endedRefresh, cutRefresh}
+use Rattle.controller.specs.Counting.{own}
 
 -- ---- one that ends by itself: all frames
 module _ (r : Refresh) (w : World) where
@@ -35,20 +36,20 @@ module _ (r : Refresh) (w : World) where
   ended-generation = ap (λ (i : PanelImage). i .generation) ended-image
 
   -- ---- one that reset cuts: the whole frames elapsed, dated by the clock; the planes stay
-  pub cut-states : cutRefresh r w .lent .states
-      ≡ walked (w .chip .config .optics .«full_swing») (λ k. take (elapsed (w .chip)) (allFrames (w .chip) k))
+  pub cut-states : cutRefresh own r w .lent .states
+      ≡ walked (w .chip .config .optics .«full_swing») (λ k. take (elapsed own (w .chip)) (allFrames (w .chip) k))
       (w .lent .numbers) (w .lent .states)
   unfolding cutRefresh finished
   cut-states = refl
 
-  pub cut-image : cutRefresh r w .chip .image ≡ published (r .kind) true (w .chip .now) (w .chip)
+  pub cut-image : cutRefresh own r w .chip .image ≡ published (r .kind) true (w .chip .now) (w .chip)
   unfolding cutRefresh finished
   cut-image = refl
 
-  pub cut-generation : cutRefresh r w .chip .image .generation ≡ min (w .chip .image .generation + 1) top
+  pub cut-generation : cutRefresh own r w .chip .image .generation ≡ min (w .chip .image .generation + 1) top
   unfolding published
   cut-generation = ap (λ (i : PanelImage). i .generation) cut-image
 
-  pub cut-old : cutRefresh r w .lent .old ≡ w .lent .old
+  pub cut-old : cutRefresh own r w .lent .old ≡ w .lent .old
   unfolding cutRefresh finished
   cut-old = refl

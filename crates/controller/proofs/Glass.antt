@@ -44,6 +44,7 @@ use Rattle.controller.specs.TurnedBack.{badLevels}
 use Rattle.controller.specs.Refresh.{refreshNote, waveformNow, numbersNow, refreshing, refreshStarted, refreshedBy, refreshed}
 use Rattle.controller.specs.Refresh.{walked, published, finished, allFrames, elapsed, copiedAfter, endedRefresh, cutRefresh}
 use Rattle.controller.specs.Sound.{Sound}
+use Rattle.controller.specs.Counting.{own}
 use Rattle.controller.proofs.Parts.{lent-lengths, fitting, sound-image, sound-old}
 use Rattle.controller.proofs.Parts.{sound-states, sound-picture, sound-tell, good-area}
 
@@ -99,9 +100,9 @@ pub sound-ended-refresh : (r : Refresh) (w : World) → Sound w → Sound (ended
 unfolding endedRefresh
 sound-ended-refresh r w s = sound-copied r _ (sound-finished (allFrames (w .chip)) (r .kind) false (w .chip .operation .until) w s)
 
-pub sound-cut-refresh : (r : Refresh) (w : World) → Sound w → Sound (cutRefresh r w)
+pub sound-cut-refresh : (r : Refresh) (w : World) → Sound w → Sound (cutRefresh own r w)
 unfolding cutRefresh
-sound-cut-refresh r w s = sound-finished (λ k. take (elapsed (w .chip)) (allFrames (w .chip) k)) (r .kind) true (w .chip .now) w s
+sound-cut-refresh r w s = sound-finished (λ k. take (elapsed own (w .chip)) (allFrames (w .chip) k)) (r .kind) true (w .chip .now) w s
 
 -- ---- a refresh's start: each number is a table's, or 255
 record Known (n : ℕ) : Type 0 where
@@ -173,7 +174,7 @@ some-period w s =
     let least = accepted (w .chip .config) (s .config) .period-least (w .chip .regs .pll % 32) (omega arith) in
     ne-eqb (getD (w .chip .config .timing .«frame_period») (w .chip .regs .pll % 32) 0) 0 (λ e. omega arith)
 
-pub sound-refresh-started : (w : World) → Sound w → Sound (refreshStarted w)
+pub sound-refresh-started : (w : World) → Sound w → Sound (refreshStarted own w)
 unfolding refreshStarted refreshing waveformNow
 sound-refresh-started w s =
     let k = lent-lengths w s in
@@ -189,16 +190,16 @@ sound-refresh-started w s =
           );
       stored = s .stored;
       fits =
-          fitting (w .chip .config) (refreshStarted w .lent)
+          fitting (w .chip .config) (refreshStarted own w .lent)
           (record { old = k .old; new = k .new; states = k .states; numbers = numbers-length w s; picture = k .picture; rows = k .rows });
       states = s .states;
       numbers = λ e. numbers-known w s;
     }
 
-sound-refreshed-by : (n : Note) (w : World) → Sound w → Sound (refreshedBy n w)
+sound-refreshed-by : (n : Note) (w : World) → Sound w → Sound (refreshedBy own n w)
 sound-refreshed-by Quiet w s = sound-refresh-started w s
 sound-refreshed-by (Told d) w s = sound-tell d w s
 
-pub sound-refreshed : (w : World) → Sound w → Sound (refreshed w)
+pub sound-refreshed : (w : World) → Sound w → Sound (refreshed own w)
 unfolding refreshed
 sound-refreshed w s = sound-refreshed-by (refreshNote (getD (w .chip .regs .psr) 0 0) (w .chip .mode .powered)) w s

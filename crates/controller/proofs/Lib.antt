@@ -6,3 +6,4 @@ pub mod TurnedAway
 pub mod Meanwhile
 pub mod SoftReset
 pub mod OneFault
+pub mod OneGigahertz

@@ -5,6 +5,7 @@ use Rattle.controller.specs.World.{World}
 use Rattle.controller.specs.Arrives.{arrived}
 use Rattle.controller.specs.DataByte.{dataByte}
 use Rattle.controller.specs.Reading as rule
+use Rattle.controller.specs.Counting.{own}
 
 -- a data byte, a read, an advance
 pub data Meanwhile : Type 0 where
@@ -17,7 +18,7 @@ timeOf (reading t) = t
 timeOf (advance t) = t
 
 abbrev pub came : Meanwhile → World → World
-came (datum t b) w = dataByte b (arrived t w)
+came (datum t b) w = dataByte own b (arrived t w)
 came (reading t) w = rule.reading (arrived t w)
 came (advance t) w = arrived t w
 

@@ -38,6 +38,7 @@ use Rattle.controller.specs.Command.{closingNote, ignoring, closedBy, cl
 use Rattle.controller.specs.Command.{commandByte}
 use Rattle.controller.specs.DataByte.{moreOf, extraOf, doing, purposeOf, under, registerByte, usedBy, givenBy, dataByte}
 use Rattle.controller.specs.Reading as rule
+use Rattle.controller.specs.Counting.{own}
 use Rattle.controller.proofs.Meanwhile.{Meanwhile, datum, reading, advance, came, cameAll, bytesIn, clockAfter}
 
 -- ---- the statement: the rows of a load of n bytes
@@ -114,9 +115,9 @@ module _ (c : ℕ) (lo : 0x20 ≤ c) (hi : c ≤ 0x24) where
   table = each-table (λ k. between 0x20 0x24 k ≡ true) refl refl refl refl refl c lo hi
 
   byte-is : (u : Use) (b : ℕ) (a : Active) (w : World) → w .chip .stage .current ≡ current.Active a → purposeOf a b ≡ u
-      → dataByte b w ≡ usedBy u a b w
+      → dataByte own b w ≡ usedBy own u a b w
   unfolding dataByte
-  byte-is u b a w e f = ap (λ (x : Current). givenBy x b w) e ∙ ap (λ (y : Use). usedBy y a b w) f
+  byte-is u b a w e f = ap (λ (x : Current). givenBy own x b w) e ∙ ap (λ (y : Use). usedBy own y a b w) f
 
   -- up to 60 bytes are taken, the next one is told, the others are counted alone
   use-taken : (n b : ℕ) (a : Active) (x : Current) (r : Work) → Loads n a x r → n < 60 → purposeOf a b ≡ use-for.Register
@@ -180,8 +181,8 @@ module _ (c : ℕ) (lo : 0x20 ≤ c) (hi : c ≤ 0x24) where
       ∙ ap diagnosed (close-is a (timed t w) (s .is))
       ∙ ap (λ (k : Note). diagnosed (ignoring (told k (timed t w)))) (note-past n a _ _ s h)
   past (datum u b ∷ xs) n a w s h t =
-      let e : dataByte b (arrived u w) ≡ onChip (under (moreOf a)) (timed u w)
-      = ap (dataByte b) (in-time u w (s .idle)) ∙ byte-is use-for.Quiet b a (timed u w) (s .is) (use-past n b a _ _ s h) in
+      let e : dataByte own b (arrived u w) ≡ onChip (under (moreOf a)) (timed u w)
+      = ap (dataByte own b) (in-time u w (s .idle)) ∙ byte-is use-for.Quiet b a (timed u w) (s .is) (use-past n b a _ _ s h) in
       ap (λ (v : World). diagnosed (closed (arrived t (cameAll xs v)))) e
       ∙ past xs (suc n) (moreOf a) (onChip (under (moreOf a)) (timed u w))
       (record {
@@ -235,7 +236,7 @@ module _ (c : ℕ) (lo : 0x20 ≤ c) (hi : c ≤ 0x24) where
 
   -- the extra byte, number 61
   extra-byte : (xs : List Meanwhile) (u b n : ℕ) (a : Active) (w : World) → LoadsIn n a w → n ≡ 60 → (t : ℕ)
-      → diagnosed (closed (arrived t (cameAll xs (dataByte b (arrived u w)))))
+      → diagnosed (closed (arrived t (cameAll xs (dataByte own b (arrived u w)))))
       ≡ reports
       (faults c (n + (1 + bytesIn xs)) (pick (eqb (60 - n) 0) (max (w .chip .now) u) (clockAt (60 - n - 1) (max (w .chip .now) u) xs))
       (max (clockAfter (max (w .chip .now) u) xs) t))
@@ -244,8 +245,8 @@ module _ (c : ℕ) (lo : 0x20 ≤ c) (hi : c ≤ 0x24) where
   extra-byte xs u b n a w s is60 t =
       let s60 : LoadsIn 60 a w = subst (λ m. LoadsIn m a w) is60 s in
       let v : World = onChip (under (extraOf (moreOf a))) (tell (ExtraData (a .command)) (timed u w)) in
-      let e : dataByte b (arrived u w) ≡ v
-      = ap (dataByte b) (in-time u w (s .idle)) ∙ byte-is use-for.Extra b a (timed u w) (s .is) (use-extra b a _ _ s60) in
+      let e : dataByte own b (arrived u w) ≡ v
+      = ap (dataByte own b) (in-time u w (s .idle)) ∙ byte-is use-for.Extra b a (timed u w) (s .is) (use-extra b a _ _ s60) in
       let long : 60 < 60 + (1 + bytesIn xs) = omega arith in
       ap (λ (x : World). diagnosed (closed (arrived t (cameAll xs x)))) e
       ∙ past xs 61 (extraOf (moreOf a)) v (extra-loads a w u s60) (omega arith) t
@@ -274,8 +275,8 @@ module _ (c : ℕ) (lo : 0x20 ≤ c) (hi : c ≤ 0x24) where
         | no h ↦
             let below : n < 60 = omega (arith, h) in
             let v : World = onChip (λ p. under (moreOf a) (registerByte a b p)) (timed u w) in
-            let e : dataByte b (arrived u w) ≡ v
-            = ap (dataByte b) (in-time u w (s .idle)) ∙ byte-is use-for.Register b a (timed u w) (s .is) (use-taken n b a _ _ s below) in
+            let e : dataByte own b (arrived u w) ≡ v
+            = ap (dataByte own b) (in-time u w (s .idle)) ∙ byte-is use-for.Register b a (timed u w) (s .is) (use-taken n b a _ _ s below) in
             let on = within xs (suc n) (moreOf a) v
             (record {
               is = refl;
@@ -311,26 +312,26 @@ module _ (c : ℕ) (lo : 0x20 ≤ c) (hi : c ≤ 0x24) where
   unfolding kindOf
   kind-of v = each-table (λ k. kindOf k v ≡ kind.Write (params.Between 1 60)) refl refl refl refl refl c lo hi
 
-  executes-nothing : (w : World) → executed c w ≡ w
+  executes-nothing : (w : World) → executed own c w ≡ w
   unfolding executed
-  executes-nothing w = each-table (λ k. executed k w ≡ w) refl refl refl refl refl c lo hi
+  executes-nothing w = each-table (λ k. executed own k w ≡ w) refl refl refl refl refl c lo hi
 
   free : barredNote power.Running work.Nothing c ≡ Quiet
   unfolding barredNote
   free = refl
 
   begin-is : (w : World) → w .chip .mode .power ≡ power.Running → w .chip .operation .work ≡ work.Nothing
-      → passed c w ≡ onChip (begun c (kind.Write (params.Between 1 60))) w
+      → passed own c w ≡ onChip (begun c (kind.Write (params.Between 1 60))) w
   unfolding passed
   begin-is w awake idle =
-      ap (λ (k : Note). passedBy k c w)
+      ap (λ (k : Note). passedBy own k c w)
       (ap (λ p. barredNote p (w .chip .operation .work) c) awake ∙ ap (λ x. barredNote power.Running x c) idle ∙ free)
-      ∙ ap (λ (k : Kind). sortedBy k c w) (kind-of (w .chip .config .variant))
+      ∙ ap (λ (k : Kind). sortedBy own k c w) (kind-of (w .chip .config .variant))
       ∙ executes-nothing _
 
   begin-told : (w : World) → w .chip .mode .power ≡ power.Running → w .chip .operation .work ≡ work.Nothing
       → (xs : List Meanwhile) (t : ℕ)
-      → diagnosed (closed (arrived t (cameAll xs (passed c w))))
+      → diagnosed (closed (arrived t (cameAll xs (passed own c w))))
       ≡ reports (faults c (bytesIn xs) (clockAt 60 (w .chip .now) xs) (max (clockAfter (w .chip .now) xs) t)) (diagnosed w)
   unfolding begun
   begin-told w awake idle xs t =
@@ -343,7 +344,7 @@ module _ (c : ℕ) (lo : 0x20 ≤ c) (hi : c ≤ 0x24) where
   -- from the command byte on, which is taken, up to the close by the next one or by a reset
   pub table-told : (w : World) → w .chip .mode .power ≡ power.Running → w .chip .operation .work ≡ work.Nothing
       → (xs : List Meanwhile) (t : ℕ)
-      → diagnosed (closed (arrived t (cameAll xs (commandByte c w))))
+      → diagnosed (closed (arrived t (cameAll xs (commandByte own c w))))
       ≡ reports (faults c (bytesIn xs) (clockAt 60 (w .chip .now) xs) (max (clockAfter (w .chip .now) xs) t)) (diagnosed (closed w))
   unfolding commandByte closed
   table-told w awake idle xs t =
@@ -354,7 +355,7 @@ module _ (c : ℕ) (lo : 0x20 ≤ c) (hi : c ≤ 0x24) where
   -- the same where the log is full as the load begins: one row is dropped for 61 bytes and more, as for any fault, and none stored
   pub full-told : (w : World) → w .chip .mode .power ≡ power.Running → w .chip .operation .work ≡ work.Nothing
       → closed w .chip .log .stored ≡ 1024 → (xs : List Meanwhile) (t : ℕ) → 60 < bytesIn xs
-      → diagnosed (closed (arrived t (cameAll xs (commandByte c w))))
+      → diagnosed (closed (arrived t (cameAll xs (commandByte own c w))))
       ≡ record { log = record { stored = 1024; dropped = min (closed w .chip .log .dropped + 1) top }; rows = closed w .lent .rows }
   unfolding faults reported rowsAfter
   full-told w awake idle full xs t long = table-told w awake idle xs t ∙ rw (lt-ltb 60 (bytesIn xs) long, full)

@@ -26,6 +26,7 @@ use Rattle.controller.specs.Arrives.{rest, timed, endedBy, ended, arrive
 use Rattle.controller.specs.Command.{closingNote, ignoring, closedBy, closed}
 use Rattle.controller.specs.Reading as rule
 use Rattle.controller.specs.DataByte.{moreOf, softOf, doing, purposeOf, under, softReset, usedBy, givenBy, dataByte}
+use Rattle.controller.specs.Counting.{own}
 use Rattle.controller.proofs.Meanwhile.{Meanwhile, datum, reading, advance, cameAll}
 
 -- all but the clock, the command under way and what runs: the diagnostics, stored and dropped, and their rows are in it
@@ -84,11 +85,11 @@ quietly : (b : ℕ) (a : Active) (c : Current) (x : Work) → Spent a c x → pu
 unfolding purposeOf
 quietly b a c x s = rw (s .one, le-ltb (a .received) 1 (s .had), s .reported)
 
-byte-is : (b : ℕ) (a : Active) (w : World) → SpentIn a w → dataByte b w ≡ onChip (under (moreOf a)) w
+byte-is : (b : ℕ) (a : Active) (w : World) → SpentIn a w → dataByte own b w ≡ onChip (under (moreOf a)) w
 unfolding dataByte
-byte-is b a w s = ap (λ (c : Current). givenBy c b w) (s .is) ∙ ap (λ (u : Use). usedBy u a b w) (quietly b a _ _ s)
+byte-is b a w s = ap (λ (c : Current). givenBy own c b w) (s .is) ∙ ap (λ (u : Use). usedBy own u a b w) (quietly b a _ _ s)
 
-in-byte : (b : ℕ) (a : Active) (w : World) → SpentIn a w → After (moreOf a) w (dataByte b w)
+in-byte : (b : ℕ) (a : Active) (w : World) → SpentIn a w → After (moreOf a) w (dataByte own b w)
 in-byte b a w s =
     subst (λ (v : World). After (moreOf a) w v) (sym (byte-is b a w s))
     (record {
@@ -121,7 +122,7 @@ later [] a w s t =
 later (datum u b ∷ xs) a w s t =
     let on = in-time u a w s in
     let byte = in-byte b a (arrived u w) (on .spent) in
-    let more = later xs (moreOf a) (dataByte b (arrived u w)) (byte .spent) t in
+    let more = later xs (moreOf a) (dataByte own b (arrived u w)) (byte .spent) t in
     (more .0 ∙ byte .left ∙ on .left, more .1 ∙ byte .left ∙ on .left)
 later (reading u ∷ xs) a w s t =
     let on = in-time u a w s in
@@ -142,23 +143,23 @@ module _ (a : Active) (b : ℕ) (w : World) (is : w .chip .stage .current ≡ cu
   unfolding purposeOf doing kindOf
   softly = rw (k, first, zero, clear)
 
-  soft-is : dataByte b w ≡ onChip (λ p. under (softOf (moreOf a)) (softReset p)) w
+  soft-is : dataByte own b w ≡ onChip (λ p. under (softOf (moreOf a)) (softReset own p)) w
   unfolding dataByte
-  soft-is = ap (λ (x : Current). givenBy x b w) is ∙ ap (λ (u : Use). usedBy u a b w) softly
+  soft-is = ap (λ (x : Current). givenBy own x b w) is ∙ ap (λ (u : Use). usedBy own u a b w) softly
 
-  spent : SpentIn (softOf (moreOf a)) (dataByte b w)
+  spent : SpentIn (softOf (moreOf a)) (dataByte own b w)
   spent =
       subst (λ (v : World). SpentIn (softOf (moreOf a)) v) (sym soft-is)
       (record { is = refl; zero = zero; one = refl; had = omega (arith, first); reported = refl; runs = refl })
 
   -- it tells nothing itself and changes no lent entry
-  pub soft-silent : (dataByte b w .chip .log ≡ w .chip .log) × (dataByte b w .lent ≡ w .lent)
+  pub soft-silent : (dataByte own b w .chip .log ≡ w .chip .log) × (dataByte own b w .lent ≡ w .lent)
   soft-silent = (ap (λ (v : World). v .chip .log) soft-is, ap (λ (v : World). v .lent) soft-is)
 
   -- no later byte of the command tells or changes anything (no kind 4, no register, no pixel), nor does a read
-  pub soft-later : (xs : List Meanwhile) → besides (cameAll xs (dataByte b w)) ≡ besides (dataByte b w)
-  soft-later xs = later xs _ (dataByte b w) spent 0 .0
+  pub soft-later : (xs : List Meanwhile) → besides (cameAll xs (dataByte own b w)) ≡ besides (dataByte own b w)
+  soft-later xs = later xs _ (dataByte own b w) spent 0 .0
 
   -- nor does its end, whenever that comes (no kind 5)
-  pub soft-closed : (xs : List Meanwhile) (t : ℕ) → besides (closed (arrived t (cameAll xs (dataByte b w)))) ≡ besides (dataByte b w)
-  soft-closed xs t = later xs _ (dataByte b w) spent t .1
+  pub soft-closed : (xs : List Meanwhile) (t : ℕ) → besides (closed (arrived t (cameAll xs (dataByte own b w)))) ≡ besides (dataByte own b w)
+  soft-closed xs t = later xs _ (dataByte own b w) spent t .1

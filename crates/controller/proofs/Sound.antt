@@ -54,6 +54,7 @@ use Rattle.controller.specs.TurnedBack.{badConfig, badPair, badRegisters
 use Rattle.controller.specs.TurnedBack.{foreignContents, foreignRecord, turnedBack, makingRefused}
 use Rattle.controller.specs.Calls.{takingRefused, takeCall, firstChip, firstBuffers, made}
 use Rattle.controller.specs.Sound.{Sound}
+use Rattle.controller.specs.Counting.{own}
 use Rattle.controller.proofs.Parts.{fitting, sound-regs, sound-luts, sound-mode, sound-current, sound-log}
 use Rattle.controller.proofs.Parts.{sound-now, sound-operation, sound-old, sound-new, sound-tell}
 use Rattle.controller.proofs.Parts.{sound-told, good-area, Stands, stands, good-cursor, next-stands}
@@ -101,7 +102,7 @@ sound-begun c k w s =
 same-range : (x : Bool) (r : Registers) → InRange r → InRange (withPartial x r)
 same-range x r q = record { resolution-held = q .resolution-held; start-held = q .start-held; window-held = q .window-held }
 
-sound-executed : (c : ℕ) (w : World) → Sound w → Sound (executed c w)
+sound-executed : (c : ℕ) (w : World) → Sound w → Sound (executed own c w)
 unfolding executed
 sound-executed c w s =
     both Sound (eqb c 0x04) (both Sound (w .chip .mode .powered) s (sound-operation _ w refl s))
@@ -113,21 +114,21 @@ sound-executed c w s =
     (both Sound (eqb c 0x11) (sound-mode _ w s)
     s))))))
 
-sound-sorted-by : (k : Kind) (c : ℕ) (w : World) → Sound w → Sound (sortedBy k c w)
+sound-sorted-by : (k : Kind) (c : ℕ) (w : World) → Sound w → Sound (sortedBy own k c w)
 sound-sorted-by kind.Unknown c w s = sound-ignoring _ (sound-tell (UnknownCommand c) w s)
 sound-sorted-by (kind.Unsupported n) c w s = sound-begun c (kind.Unsupported n) _ (sound-tell (UnsupportedCommand c) w s)
 sound-sorted-by (kind.Write n) c w s = sound-executed c _ (sound-begun c (kind.Write n) w s)
 sound-sorted-by kind.Read c w s = sound-executed c _ (sound-begun c kind.Read w s)
 
-sound-passed-by : (n : Note) (c : ℕ) (w : World) → Sound w → Sound (passedBy n c w)
+sound-passed-by : (n : Note) (c : ℕ) (w : World) → Sound w → Sound (passedBy own n c w)
 sound-passed-by (Told d) c w s = sound-ignoring _ (sound-tell d w s)
 sound-passed-by Quiet c w s = sound-sorted-by (kindOf c (w .chip .config .variant)) c w s
 
-sound-passed : (c : ℕ) (w : World) → Sound w → Sound (passed c w)
+sound-passed : (c : ℕ) (w : World) → Sound w → Sound (passed own c w)
 unfolding passed
 sound-passed c w s = sound-passed-by (barredNote (w .chip .mode .power) (w .chip .operation .work) c) c w s
 
-pub sound-command : (c : ℕ) (w : World) → c < 256 → Sound w → Sound (commandByte c w)
+pub sound-command : (c : ℕ) (w : World) → c < 256 → Sound w → Sound (commandByte own c w)
 unfolding commandByte
 sound-command c w h s = sound-passed c _ (sound-closed w s)
 
@@ -164,7 +165,7 @@ sound-newer a b w c s =
     (sound-new (written (w .lent .new) area (a .cursor .x) (a .cursor .y) b) w
     (length-written (w .lent .new) area (a .cursor .x) (a .cursor .y) b) s)))
 
-sound-soft : (w : World) → Sound w → Sound (onChip softReset w)
+sound-soft : (w : World) → Sound w → Sound (onChip (softReset own) w)
 sound-soft w s =
     sound-operation _ _ refl
     (sound-mode _ _
@@ -176,7 +177,7 @@ sound-register a b w h s =
     (sound-regs (byteOf (a .command) (a .received) b (w .chip .regs)) w
     (byte-in-range (a .command) (a .received) b (w .chip .regs) (s .regs) h) s)
 
-sound-used-by : (u : Use) (a : Active) (b : ℕ) (w : World) → b < 256 → Stands (a .cursor) → Sound w → Sound (usedBy u a b w)
+sound-used-by : (u : Use) (a : Active) (b : ℕ) (w : World) → b < 256 → Stands (a .cursor) → Sound w → Sound (usedBy own u a b w)
 sound-used-by use-for.Extra a b w h c s = sound-under (extraOf (moreOf a)) _ c (sound-tell (ExtraData (a .command)) w s)
 sound-used-by use-for.Quiet a b w h c s = sound-under (moreOf a) w c s
 sound-used-by use-for.Soft a b w h c s = sound-under (softOf (moreOf a)) _ c (sound-soft w s)
@@ -186,12 +187,12 @@ sound-used-by use-for.Register a b w h c s = sound-under (moreOf a) _ c (sound-r
 sound-used-by use-for.Older a b w h c s = sound-older (moreOf a) b w c s
 sound-used-by use-for.Newer a b w h c s = sound-newer (moreOf a) b w c s
 
-sound-given-by : (x : Current) (b : ℕ) (w : World) → b < 256 → badCurrent x ≡ false → Sound w → Sound (givenBy x b w)
+sound-given-by : (x : Current) (b : ℕ) (w : World) → b < 256 → badCurrent x ≡ false → Sound w → Sound (givenBy own x b w)
 sound-given-by current.Idle b w h e s = sound-ignoring _ (sound-tell (DataWithoutCommand b) w s)
 sound-given-by current.Ignoring b w h e s = s
 sound-given-by (current.Active a) b w h e s = sound-used-by (purposeOf a b) a b w h (stands a e) s
 
-pub sound-data : (b : ℕ) (w : World) → b < 256 → Sound w → Sound (dataByte b w)
+pub sound-data : (b : ℕ) (w : World) → b < 256 → Sound w → Sound (dataByte own b w)
 unfolding dataByte
 sound-data b w h s = sound-given-by (w .chip .stage .current) b w h (s .stage) s
 
@@ -217,7 +218,7 @@ unfolding reading
 sound-reading w s = sound-reading-by (w .chip .stage .current) w (s .stage) s
 
 -- ---- the reset line
-sound-cut-by : (x : Work) (w : World) → Sound w → Sound (cutBy x w)
+sound-cut-by : (x : Work) (w : World) → Sound w → Sound (cutBy own x w)
 sound-cut-by work.Nothing w s = s
 sound-cut-by work.PowerOn w s = s
 sound-cut-by work.PowerOff w s = s
@@ -226,7 +227,7 @@ sound-cut-by work.SoftReset w s = s
 sound-cut-by work.HardwareReset w s = s
 sound-cut-by (work.Refresh r) w s = sound-cut-refresh r _ (sound-tell ResetDuringRefresh w s)
 
-sound-cut : (w : World) → Sound w → Sound (cut w)
+sound-cut : (w : World) → Sound w → Sound (cut own w)
 unfolding cut
 sound-cut w s = sound-cut-by (w .chip .operation .work) w s
 
@@ -239,21 +240,21 @@ sound-cleared w s =
     (sound-luts resetLuts _
     (sound-regs (resetOf (w .chip .config .variant)) w (reset-in-range (w .chip .config .variant)) s))))
 
-sound-lowered-by : (p : Power) (w : World) → Sound w → Sound (loweredBy p w)
+sound-lowered-by : (p : Power) (w : World) → Sound w → Sound (loweredBy own p w)
 sound-lowered-by power.Running w s = sound-cleared _ (sound-closed _ (sound-cut w s))
 sound-lowered-by power.Asleep w s = sound-cleared _ (sound-closed _ (sound-cut w s))
 sound-lowered-by power.InReset w s = s
 
-sound-raised-by : (p : Power) (w : World) → Sound w → Sound (raisedBy p w)
+sound-raised-by : (p : Power) (w : World) → Sound w → Sound (raisedBy own p w)
 sound-raised-by power.Running w s = s
 sound-raised-by power.Asleep w s = s
 sound-raised-by power.InReset w s = sound-operation _ _ refl (sound-mode _ w s)
 
-sound-edge : (asserted : Bool) (w : World) → Sound w → Sound (edge asserted w)
+sound-edge : (asserted : Bool) (w : World) → Sound w → Sound (edge own asserted w)
 sound-edge true w s = sound-lowered-by (w .chip .mode .power) w s
 sound-edge false w s = sound-raised-by (w .chip .mode .power) w s
 
-pub sound-reset : (asserted : Bool) (w : World) → Sound w → Sound (resetEdge asserted w)
+pub sound-reset : (asserted : Bool) (w : World) → Sound w → Sound (resetEdge own asserted w)
 unfolding resetEdge
 sound-reset asserted w s = sound-edge asserted w s
 

@@ -13,6 +13,7 @@ use Rattle.controller.specs.declared.Uc8253.{Uc8253}
 use Rattle.controller.specs.World.{World, onChip}
 use Rattle.controller.specs.Setters.{withNow, withOperation, withPower, withPowered}
 use Rattle.controller.specs.Refresh.{endedRefresh}
+use Rattle.controller.specs.Counting.{Counting}
 
 -- the clock becomes the larger of itself and the time given
 abbrev pub timed : ℕ → World → World
@@ -22,9 +23,9 @@ timed t w = onChip (λ p. withNow (max (p .now) t) p) w
 abbrev pub rest : Operation
 rest = record { work = work.Nothing; started = 0; until = 0 }
 
--- an operation from the clock on; its end is start plus duration, held at 2^64 - 1
-abbrev pub starting : Work → ℕ → Uc8253 → Uc8253
-starting x ns p = withOperation (record { work = x; started = p .now; until = min (p .now + ns) top }) p
+-- an operation from the clock on; its end is start plus duration in cycles, held at 2^64 - 1
+abbrev pub starting : (Uc8253 → Counting) → Work → ℕ → Uc8253 → Uc8253
+starting clock x ns p = withOperation (record { work = x; started = p .now; until = min (p .now + clock p .cycles ns) top }) p
 
 -- the end of each: 04 has brought the supplies up, 02 has taken them down, 07 sleeps without them; the resets leave all as it is
 abbrev pub endedBy : Work → World → World

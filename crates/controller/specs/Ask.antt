@@ -7,7 +7,9 @@ use Rattle.base.specs.Pick.{pick}
 use Rattle.ram.specs.declared.Found.{Found}
 use Rattle.controller.specs.declared.Due.{Due}
 use Rattle.controller.specs.declared.reads.Read.{Read}
+use Rattle.controller.specs.declared.Uc8253.{Uc8253}
 use Rattle.controller.specs.World.{World}
+use Rattle.controller.specs.Counting.{Counting, own}
 use Rattle.controller.specs.TurnedBack.{turnedBack}
 use Rattle.controller.specs.Calls as calls
 
@@ -22,18 +24,22 @@ pub data Ask : Type 0 where
   askBit : Bool → ℕ → ℕ → Ask
   askRow : ℕ → Ask
 
--- what each call makes of a record and what is lent; a question gives back no record, and the last one stands
+-- what each call makes of a record and what is lent, by two conversions; a question gives back no record, and the last one stands
+abbrev pub didBy : (Uc8253 → Counting) → Ask → World → World
+didBy clock (command t c) w = calls.commandCall clock t c w
+didBy clock (datum t b) w = calls.dataCall clock t b w
+didBy clock (reading t) w = calls.readCall t w
+didBy clock (advance t) w = calls.advanceCall t w
+didBy clock (reset t asserted) w = calls.resetCall clock t asserted w
+didBy clock taking w = calls.takeCall w
+didBy clock (askBusy t) w = w
+didBy clock askDeadline w = w
+didBy clock (askBit older x y) w = w
+didBy clock (askRow y) w = w
+
+-- by those of the record's own clock
 abbrev pub did : Ask → World → World
-did (command t c) w = calls.commandCall t c w
-did (datum t b) w = calls.dataCall t b w
-did (reading t) w = calls.readCall t w
-did (advance t) w = calls.advanceCall t w
-did (reset t asserted) w = calls.resetCall t asserted w
-did taking w = calls.takeCall w
-did (askBusy t) w = w
-did askDeadline w = w
-did (askBit older x y) w = w
-did (askRow y) w = w
+did = didBy own
 
 -- the number of its refusal, 0 if it is accepted
 abbrev pub refusedBy : Ask → World → ℕ

@@ -37,16 +37,17 @@ use Rattle.controller.specs.Command.{commandByte}
 use Rattle.controller.specs.DataByte.{dataByte}
 use Rattle.controller.specs.Reading.{reading, readOf}
 use Rattle.controller.specs.Reset.{resetEdge}
+use Rattle.controller.specs.Counting.{Counting}
 
 -- a later call at a time
 unfoldable pub called : Bool → ℕ → (World → World) → World → World
 called asserted t f w = pick (eqb (turnedBack asserted t w) 0) (f (arrived t w)) w
 
-abbrev pub commandCall : ℕ → ℕ → World → World
-commandCall t c w = called false t (commandByte c) w
+abbrev pub commandCall : (Uc8253 → Counting) → ℕ → ℕ → World → World
+commandCall clock t c w = called false t (commandByte clock c) w
 
-abbrev pub dataCall : ℕ → ℕ → World → World
-dataCall t b w = called false t (dataByte b) w
+abbrev pub dataCall : (Uc8253 → Counting) → ℕ → ℕ → World → World
+dataCall clock t b w = called false t (dataByte clock b) w
 
 abbrev pub readCall : ℕ → World → World
 readCall t w = called false t reading w
@@ -55,8 +56,8 @@ readCall t w = called false t reading w
 unfoldable pub readAnswer : ℕ → World → Read
 readAnswer t w = pick (eqb (turnedBack false t w) 0) (readOf (arrived t w .chip)) Nothing
 
-abbrev pub resetCall : ℕ → Bool → World → World
-resetCall t asserted w = called asserted t (resetEdge asserted) w
+abbrev pub resetCall : (Uc8253 → Counting) → ℕ → Bool → World → World
+resetCall clock t asserted w = called asserted t (resetEdge clock asserted) w
 
 abbrev pub advanceCall : ℕ → World → World
 advanceCall t w = called false t (λ v. v) w
@@ -147,6 +148,7 @@ noConfig = record {
     «soft_reset» = 0;
     «hardware_reset» = 0;
     «frame_period» = replicate 32 0;
+    rate = 0;
   };
   «ambient_celsius» = 0;
 }

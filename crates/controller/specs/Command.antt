@@ -26,6 +26,7 @@ use Rattle.controller.specs.Setters.{withCurrent, withRegs, withDataFlag
 use Rattle.controller.specs.Tell.{tell, told}
 use Rattle.controller.specs.Arrives.{starting}
 use Rattle.controller.specs.Refresh.{refreshed}
+use Rattle.controller.specs.Counting.{Counting}
 
 -- kind 5 below its least count, else kind 13 for 20 to 24 unless 42 bytes came. The extra-byte rule comes first (2026-02): kind 13 is
 -- left out where kind 4 was stored or dropped for the same command
@@ -114,11 +115,11 @@ withPartial x r = record {
 }
 
 -- 04 acts with power off, 02 with power on; 12 is a refresh; 11 sets the data flag, 10 and 13 clear it
-unfoldable pub executed : ℕ → World → World
-executed c w =
-    pick (eqb c 0x04) (pick (w .chip .mode .powered) w (onChip (starting work.PowerOn (w .chip .config .timing .«power_on»)) w))
-    (pick (eqb c 0x02) (pick (w .chip .mode .powered) (onChip (starting work.PowerOff (w .chip .config .timing .«power_off»)) w) w)
-    (pick (eqb c 0x12) (refreshed w)
+unfoldable pub executed : (Uc8253 → Counting) → ℕ → World → World
+executed clock c w =
+    pick (eqb c 0x04) (pick (w .chip .mode .powered) w (onChip (starting clock work.PowerOn (w .chip .config .timing .«power_on»)) w))
+    (pick (eqb c 0x02) (pick (w .chip .mode .powered) (onChip (starting clock work.PowerOff (w .chip .config .timing .«power_off»)) w) w)
+    (pick (eqb c 0x12) (refreshed clock w)
     (pick (eqb c 0x91) (onChip (withRegs (withPartial true (w .chip .regs))) w)
     (pick (eqb c 0x92) (onChip (withRegs (withPartial false (w .chip .regs))) w)
     (pick (oneOf (0x10 ∷ 0x13 ∷ []) c) (onChip (withDataFlag false) w)
@@ -126,19 +127,19 @@ executed c w =
     w))))))
 
 -- unknown, kind 1, and data is ignored; 15, 17, A0 and A1, kind 2, and data is only counted
-abbrev pub sortedBy : Kind → ℕ → World → World
-sortedBy kind.Unknown c w = ignoring (tell (UnknownCommand c) w)
-sortedBy (kind.Unsupported n) c w = onChip (begun c (kind.Unsupported n)) (tell (UnsupportedCommand c) w)
-sortedBy (kind.Write n) c w = executed c (onChip (begun c (kind.Write n)) w)
-sortedBy kind.Read c w = executed c (onChip (begun c kind.Read) w)
+abbrev pub sortedBy : (Uc8253 → Counting) → Kind → ℕ → World → World
+sortedBy clock kind.Unknown c w = ignoring (tell (UnknownCommand c) w)
+sortedBy clock (kind.Unsupported n) c w = onChip (begun c (kind.Unsupported n)) (tell (UnsupportedCommand c) w)
+sortedBy clock (kind.Write n) c w = executed clock c (onChip (begun c (kind.Write n)) w)
+sortedBy clock kind.Read c w = executed clock c (onChip (begun c kind.Read) w)
 
 -- after 6, 7 or 8 data is ignored
-abbrev pub passedBy : Note → ℕ → World → World
-passedBy (Told k) c w = ignoring (tell k w)
-passedBy Quiet c w = sortedBy (kindOf c (w .chip .config .variant)) c w
+abbrev pub passedBy : (Uc8253 → Counting) → Note → ℕ → World → World
+passedBy clock (Told k) c w = ignoring (tell k w)
+passedBy clock Quiet c w = sortedBy clock (kindOf c (w .chip .config .variant)) c w
 
-unfoldable pub passed : ℕ → World → World
-passed c w = passedBy (barredNote (w .chip .mode .power) (w .chip .operation .work) c) c w
+unfoldable pub passed : (Uc8253 → Counting) → ℕ → World → World
+passed clock c w = passedBy clock (barredNote (w .chip .mode .power) (w .chip .operation .work) c) c w
 
-unfoldable pub commandByte : ℕ → World → World
-commandByte c w = passed c (closed w)
+unfoldable pub commandByte : (Uc8253 → Counting) → ℕ → World → World
+commandByte clock c w = passed clock c (closed w)

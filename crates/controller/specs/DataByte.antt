@@ -27,6 +27,7 @@ use Rattle.controller.specs.Setters.{withCurrent, withRegs, withLuts, wi
 use Rattle.controller.specs.Tell.{tell}
 use Rattle.controller.specs.Arrives.{starting}
 use Rattle.controller.specs.Command.{ignoring}
+use Rattle.controller.specs.Counting.{Counting}
 
 -- counts hold at 65,535
 abbrev pub countedOf : ℕ → ℕ
@@ -140,9 +141,9 @@ newerByte a b w =
     (world (pixelChip a (w .chip)) (withNew (written (w .lent .new) area (a .cursor .x) (a .cursor .y) b) (w .lent)))
 
 -- registers reset, power off, soft reset
-abbrev pub softReset : Uc8253 → Uc8253
-softReset p =
-    starting work.SoftReset (p .config .timing .«soft_reset»)
+abbrev pub softReset : (Uc8253 → Counting) → Uc8253 → Uc8253
+softReset clock p =
+    starting clock work.SoftReset (p .config .timing .«soft_reset»)
     (withPowered false (withLuts resetLuts (withRegs (resetOf (p .config .variant)) p)))
 
 abbrev pub registerByte : Active → ℕ → Uc8253 → Uc8253
@@ -151,21 +152,21 @@ registerByte a b p =
     (withRegs (byteOf (a .command) (a .received) b (p .regs)) p)
 
 -- what the byte does, which is number `received` of a
-abbrev pub usedBy : Use → Active → ℕ → World → World
-usedBy use-for.Extra a b w = onChip (under (extraOf (moreOf a))) (tell (ExtraData (a .command)) w)
-usedBy use-for.Quiet a b w = onChip (under (moreOf a)) w
-usedBy use-for.Soft a b w = onChip (λ p. under (softOf (moreOf a)) (softReset p)) w
-usedBy use-for.Sleep a b w = onChip (λ p. under (moreOf a) (starting work.DeepSleep (p .config .timing .«deep_sleep») p)) w
-usedBy use-for.Wrong a b w = onChip (under (moreOf a)) (tell (WrongCheckCode b) w)
-usedBy use-for.Register a b w = onChip (λ p. under (moreOf a) (registerByte a b p)) w
-usedBy use-for.Older a b w = olderByte (moreOf a) b w
-usedBy use-for.Newer a b w = newerByte (moreOf a) b w
+abbrev pub usedBy : (Uc8253 → Counting) → Use → Active → ℕ → World → World
+usedBy clock use-for.Extra a b w = onChip (under (extraOf (moreOf a))) (tell (ExtraData (a .command)) w)
+usedBy clock use-for.Quiet a b w = onChip (under (moreOf a)) w
+usedBy clock use-for.Soft a b w = onChip (λ p. under (softOf (moreOf a)) (softReset clock p)) w
+usedBy clock use-for.Sleep a b w = onChip (λ p. under (moreOf a) (starting clock work.DeepSleep (p .config .timing .«deep_sleep») p)) w
+usedBy clock use-for.Wrong a b w = onChip (under (moreOf a)) (tell (WrongCheckCode b) w)
+usedBy clock use-for.Register a b w = onChip (λ p. under (moreOf a) (registerByte a b p)) w
+usedBy clock use-for.Older a b w = olderByte (moreOf a) b w
+usedBy clock use-for.Newer a b w = newerByte (moreOf a) b w
 
 -- with no command since making or a reset by pin: kind 3, once, then ignored
-abbrev pub givenBy : Current → ℕ → World → World
-givenBy current.Idle b w = ignoring (tell (DataWithoutCommand b) w)
-givenBy current.Ignoring b w = w
-givenBy (current.Active a) b w = usedBy (purposeOf a b) a b w
+abbrev pub givenBy : (Uc8253 → Counting) → Current → ℕ → World → World
+givenBy clock current.Idle b w = ignoring (tell (DataWithoutCommand b) w)
+givenBy clock current.Ignoring b w = w
+givenBy clock (current.Active a) b w = usedBy clock (purposeOf a b) a b w
 
-unfoldable pub dataByte : ℕ → World → World
-dataByte b w = givenBy (w .chip .stage .current) b w
+unfoldable pub dataByte : (Uc8253 → Counting) → ℕ → World → World
+dataByte clock b w = givenBy clock (w .chip .stage .current) b w

@@ -1,4 +1,5 @@
 pub mod World
+pub mod Counting
 pub mod Setters
 pub mod Tell
 pub mod Arrives

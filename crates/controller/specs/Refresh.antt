@@ -33,6 +33,7 @@ use Rattle.controller.specs.declared.notes.Note.the-variants.{Quiet, Tol
 use Rattle.controller.specs.World.{World, Buffers, world}
 use Rattle.controller.specs.Setters.{withOperation, withWaveform, withImage, withNumbers, withStates, withPicture, withOld}
 use Rattle.controller.specs.Tell.{tell}
+use Rattle.controller.specs.Counting.{Counting}
 
 -- refused in order: bit 5 of the first 00 byte clear (text 1), bit 4 clear (2), bit 1 clear (3), power off
 unfoldable pub refreshNote : ℕ → Bool → Note
@@ -59,27 +60,27 @@ numbersNow p b =
 unfoldable pub kindBy : List ℕ → RefreshKind
 kindBy numbers = pick (someUndriven numbers) Partial Full
 
--- the operation, its end after the duration
-unfoldable pub refreshing : Uc8253 → List ℕ → Operation
-refreshing p numbers = record {
+-- the operation, its end after the duration, which is converted whole
+unfoldable pub refreshing : (Uc8253 → Counting) → Uc8253 → List ℕ → Operation
+refreshing clock p numbers = record {
   work = work.Refresh (record { area = writtenOf (p .regs); kind = kindBy numbers });
   started = p .now;
-  until = min (p .now + durationOf (waveformNow p)) top;
+  until = min (p .now + clock p .cycles (durationOf (waveformNow p))) top;
 }
 
 -- only a refresh's start writes the numbers
-unfoldable pub refreshStarted : World → World
-refreshStarted w =
+unfoldable pub refreshStarted : (Uc8253 → Counting) → World → World
+refreshStarted clock w =
     let ns = numbersNow (w .chip) (w .lent) in
-    world (withOperation (refreshing (w .chip) ns) (withWaveform (waveformNow (w .chip)) (w .chip))) (withNumbers ns (w .lent))
+    world (withOperation (refreshing clock (w .chip) ns) (withWaveform (waveformNow (w .chip)) (w .chip))) (withNumbers ns (w .lent))
 
-abbrev pub refreshedBy : Note → World → World
-refreshedBy (Told k) w = tell k w
-refreshedBy Quiet w = refreshStarted w
+abbrev pub refreshedBy : (Uc8253 → Counting) → Note → World → World
+refreshedBy clock (Told k) w = tell k w
+refreshedBy clock Quiet w = refreshStarted clock w
 
 -- 12
-unfoldable pub refreshed : World → World
-refreshed w = refreshedBy (refreshNote (getD (w .chip .regs .psr) 0 0) (w .chip .mode .powered)) w
+unfoldable pub refreshed : (Uc8253 → Counting) → World → World
+refreshed clock w = refreshedBy clock (refreshNote (getD (w .chip .regs .psr) 0 0) (w .chip .mode .powered)) w
 
 -- the glass: each pixel walks the frames of its number's table, frame by frame, none for 255
 unfoldable pub walked : ℕ → (ℕ → List ℤ) → List ℕ → List ℤ → List ℤ
@@ -109,9 +110,9 @@ finished frames kind interrupted at w =
 abbrev pub allFrames : Uc8253 → ℕ → List ℤ
 allFrames p k = framesOf (p .waveform) (p .config .optics .«positive_drives_black») k
 
--- the whole frames elapsed
-abbrev pub elapsed : Uc8253 → ℕ
-elapsed p = (p .now - p .operation .started) / p .waveform .«frame_ns»
+-- the whole frames elapsed: those of clock less start, converted
+abbrev pub elapsed : (Uc8253 → Counting) → Uc8253 → ℕ
+elapsed clock p = clock p .nanos (p .now - p .operation .started) / p .waveform .«frame_ns»
 
 -- on UC8253 with bit 3 of the first 50 byte new is copied to old in its area
 unfoldable pub copiedAfter : Refresh → World → World
@@ -125,5 +126,5 @@ unfoldable pub endedRefresh : Refresh → World → World
 endedRefresh r w = copiedAfter r (finished (allFrames (w .chip)) (r .kind) false (w .chip .operation .until) w)
 
 -- one that reset cuts drives the whole frames elapsed; it is dated by the clock
-unfoldable pub cutRefresh : Refresh → World → World
-cutRefresh r w = finished (λ k. take (elapsed (w .chip)) (allFrames (w .chip) k)) (r .kind) true (w .chip .now) w
+unfoldable pub cutRefresh : (Uc8253 → Counting) → Refresh → World → World
+cutRefresh clock r w = finished (λ k. take (elapsed clock (w .chip)) (allFrames (w .chip) k)) (r .kind) true (w .chip .now) w

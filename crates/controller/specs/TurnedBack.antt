@@ -21,7 +21,7 @@ use Rattle.controller.specs.declared.Stage.{Stage}
 use Rattle.controller.specs.declared.Uc8253.{Uc8253}
 use Rattle.controller.specs.World.{World, Buffers}
 
--- 6: its configuration meets 1 to 4
+-- 6: its configuration meets 1 to 4 or 13
 unfoldable pub badConfig : Uc8253Config → Bool
 badConfig c = not (eqb (refusal c) 0)
 
@@ -109,7 +109,7 @@ turnedBack asserted t w =
     (pick (endsRefresh asserted t (w .chip) && foreignContents (w .chip .config .optics .«full_swing») (w .lent)) 7 0)
     5)
 
--- making tests 1, 2, 3, 4, 5
+-- making tests 1, 2, 3, 4, 13, 5
 unfoldable pub makingRefused : Uc8253Config → Buffers → ℕ
 makingRefused c b = pick (eqb (refusal c) 0) (pick (lentFits c b) 0 5) (refusal c)
 

@@ -28,9 +28,10 @@ use Rattle.controller.specs.Command.{closedBy, closed, closingNote}
 use Rattle.controller.specs.Refresh.{walked, published, allFrames, finished, cutRefresh}
 use Rattle.controller.specs.Reset as reset
 use Rattle.controller.specs.Calls.{called, resetCall}
+use Rattle.controller.specs.Counting.{own}
 use Rattle.controller.proofs.Ends.{ended-image}
 use Rattle.event.specs.declared.Event.{Event}
-use Rattle.event.specs.Events.{asserts, eventDone, eventRefused}
+use Rattle.event.specs.Events.{asserts, eventDone, eventDoneBy, eventRefused}
 use Rattle.cuts.specs.Cuts.{isCut, cutAt}
 
 -- ---- the tests of a cut, one by one
@@ -122,14 +123,14 @@ runs work.SoftReset e = absurd (true≢false (sym e))
 runs work.HardwareReset e = absurd (true≢false (sym e))
 runs (work.Refresh r) e = record { refresh = r; is = refl }
 
-lowered : (x : Power) (v : World) → cuts x true ≡ true → reset.loweredBy x v ≡ onChip reset.cleared (closed (reset.cut v))
+lowered : (x : Power) (v : World) → cuts x true ≡ true → reset.loweredBy own x v ≡ onChip reset.cleared (closed (reset.cut own v))
 lowered power.Running v e = refl
 lowered power.Asleep v e = refl
 lowered power.InReset v e = absurd (true≢false (sym e))
 
 -- kind 15, the picture of the whole frames elapsed, and then the reset
 abbrev pub cutCall : ℕ → Refresh → World → World
-cutCall t r w = onChip reset.cleared (closed (cutRefresh r (tell ResetDuringRefresh (timed t w))))
+cutCall t r w = onChip reset.cleared (closed (cutRefresh own r (tell ResetDuringRefresh (timed t w))))
 
 pub record CutAt (t : ℕ) (w v : World) : Type 0 where
   pub refresh : Refresh
@@ -150,7 +151,7 @@ idle work.SoftReset u e = refl
 idle work.HardwareReset u e = refl
 idle (work.Refresh r) u e = refl
 
-whole : (x : Work) (v : World) → refreshRuns x ≡ false → reset.cutBy x v ≡ v
+whole : (x : Work) (v : World) → refreshRuns x ≡ false → reset.cutBy own x v ≡ v
 whole work.Nothing v e = refl
 whole work.PowerOn v e = refl
 whole work.PowerOff v e = refl
@@ -160,7 +161,7 @@ whole work.HardwareReset v e = refl
 whole (work.Refresh r) v e = absurd (true≢false e)
 
 spared : (x : Power) (v : World) → (cuts x true && refreshRuns (v .chip .operation .work)) ≡ false
-    → reset.loweredBy x v ≡ pick (cuts x true) (onChip reset.cleared (closed v)) v
+    → reset.loweredBy own x v ≡ pick (cuts x true) (onChip reset.cleared (closed v)) v
 unfolding reset.cut
 spared power.Running v e = ap (λ (u : World). onChip reset.cleared (closed u)) (whole (v .chip .operation .work) v e)
 spared power.Asleep v e = ap (λ (u : World). onChip reset.cleared (closed u)) (whole (v .chip .operation .work) v e)
@@ -187,14 +188,14 @@ module _ (t : ℕ) (w : World) where
   unfolding arrived ended
   arrived-soon e = rw e
 
-  taken : turnedBack true t w ≡ 0 → resetCall t true w ≡ reset.loweredBy (arrived t w .chip .mode .power) (arrived t w)
+  taken : turnedBack true t w ≡ 0 → resetCall own t true w ≡ reset.loweredBy own (arrived t w .chip .mode .power) (arrived t w)
   unfolding called reset.resetEdge
   taken z = rw (eq-eqb (turnedBack true t w) 0 z)
 
   -- ---- a cut
-  cut-of : (r : Refresh) → w .chip .operation .work ≡ work.Refresh r → reset.cut (timed t w) ≡ cutRefresh r (tell ResetDuringRefresh (timed t w))
+  cut-of : (r : Refresh) → w .chip .operation .work ≡ work.Refresh r → reset.cut own (timed t w) ≡ cutRefresh own r (tell ResetDuringRefresh (timed t w))
   unfolding reset.cut
-  cut-of r e = ap (λ (x : Work). reset.cutBy x (timed t w)) e
+  cut-of r e = ap (λ (x : Work). reset.cutBy own x (timed t w)) e
 
   late : rest t (w .chip) ≡ true → soon ≡ false
   late e =
@@ -204,7 +205,7 @@ module _ (t : ℕ) (w : World) where
       lt-leb (w .chip .operation .until) (max (w .chip .now) t)
       (ltb-true (max (w .chip .now) t) (w .chip .operation .until) (second r k (second c (r && k) e)))
 
-  pub reset-cuts : turnedBack true t w ≡ 0 → rest t (w .chip) ≡ true → CutAt t w (resetCall t true w)
+  pub reset-cuts : turnedBack true t w ≡ 0 → rest t (w .chip) ≡ true → CutAt t w (resetCall own t true w)
   reset-cuts z e =
       let c = cuts (w .chip .mode .power) true in
       let r = refreshRuns (w .chip .operation .work) in
@@ -215,7 +216,7 @@ module _ (t : ℕ) (w : World) where
         runs = x .is;
         call =
             taken z
-            ∙ ap (λ (v : World). reset.loweredBy (v .chip .mode .power) v) (arrived-late (late e))
+            ∙ ap (λ (v : World). reset.loweredBy own (v .chip .mode .power) v) (arrived-late (late e))
             ∙ lowered (w .chip .mode .power) (timed t w) (first c (r && k) e)
             ∙ ap (λ (v : World). onChip reset.cleared (closed v)) (cut-of (x .refresh) (x .is));
       }
@@ -233,7 +234,7 @@ module _ (t : ℕ) (w : World) where
       ∙ no-more (cuts (w .chip .mode .power) true) (refreshRuns (w .chip .operation .work))
       (ltb (max (w .chip .now) t) (w .chip .operation .until)) (below (w .chip .operation .until) (max (w .chip .now) t) s) e)
 
-  pub reset-spares : turnedBack true t w ≡ 0 → rest t (w .chip) ≡ false → resetCall t true w ≡ uncut (arrived t w)
+  pub reset-spares : turnedBack true t w ≡ 0 → rest t (w .chip) ≡ false → resetCall own t true w ≡ uncut (arrived t w)
   reset-spares z e = taken z ∙ spared (arrived t w .chip .mode .power) (arrived t w) (nothing-runs e)
 
 -- ---- the picture and the states of both
@@ -261,14 +262,14 @@ module _ (t : ℕ) (r : Refresh) (w : World) where
   -- marked interrupted, its end the clock
   pub cut-image : cutCall t r w .chip .image ≡ published (r .kind) true (cutAt t (w .chip) .at) (w .chip)
   unfolding reset.cleared closed cutRefresh finished tell cutAt published
-  cut-image = closed-image (w .chip .stage .current) (cutRefresh r (tell ResetDuringRefresh (timed t w)))
+  cut-image = closed-image (w .chip .stage .current) (cutRefresh own r (tell ResetDuringRefresh (timed t w)))
 
   -- each pixel walks the frames that the cut counts, of its number's table
   pub cut-states : cutCall t r w .lent .states
       ≡ walked (w .chip .config .optics .«full_swing») (λ k. take (cutAt t (w .chip) .frames) (allFrames (w .chip) k))
       (w .lent .numbers) (w .lent .states)
   unfolding closed cutRefresh finished tell cutAt
-  cut-states = closed-states (w .chip .stage .current) (cutRefresh r (tell ResetDuringRefresh (timed t w)))
+  cut-states = closed-states (w .chip .stage .current) (cutRefresh own r (tell ResetDuringRefresh (timed t w)))
 
 -- no cut publishes nothing: the picture is the one that the call's time left
 pub spared-image : (v : World) → uncut v .chip .image ≡ v .chip .image
@@ -295,8 +296,8 @@ time-marks-none t w =
     (λ s. rw s (λ e. refl))
 
 -- ---- the same of an event that its call takes
-is-reset : (e : Event) (w : World) → asserts e ≡ true → eventDone e w ≡ resetCall (e .time) true w
-unfolding asserts eventDone
+is-reset : (e : Event) (w : World) → asserts e ≡ true → eventDone e w ≡ resetCall own (e .time) true w
+unfolding asserts eventDone eventDoneBy
 is-reset e w a =
     let k : e .kind ≡ 4 = eqb-true (e .kind) 4 (first (eqb (e .kind) 4) (eqb (e .value) 1) a) in
     let v : e .value ≡ 1 = eqb-true (e .value) 1 (second (eqb (e .kind) 4) (eqb (e .value) 1) a) in

@@ -8,6 +8,7 @@ use Rattle.controller.specs.declared.Uc8253.{Uc8253}
 use Rattle.controller.specs.Setters.{withNow}
 use Rattle.controller.specs.TurnedBack.{cuts, refreshRuns}
 use Rattle.controller.specs.Refresh.{elapsed}
+use Rattle.controller.specs.Counting.{own}
 use Rattle.event.specs.declared.Event.{Event}
 use Rattle.event.specs.Events.{asserts}
 use Rattle.cuts.specs.declared.finding.Cut.{Cut}
@@ -21,7 +22,7 @@ isCut e p =
 
 -- that clock, the whole frames elapsed then, and the frames of the whole refresh
 unfoldable pub cutAt : ℕ → Uc8253 → Cut
-cutAt t p = record { at = max (p .now) t; frames = elapsed (withNow (max (p .now) t) p); of = refreshFrames (p .waveform) }
+cutAt t p = record { at = max (p .now) t; frames = elapsed own (withNow (max (p .now) t) p); of = refreshFrames (p .waveform) }
 
 unfoldable pub cutBy : Event → Uc8253 → Found
 cutBy e p = pick (isCut e p) (found.Cut (cutAt (e .time) p)) found.Nothing

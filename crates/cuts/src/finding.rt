@@ -5,8 +5,8 @@ use base::greatest;
 use capture::RESET;
 use controller::Uc8253;
 use event::Event;
+use rules::elapsed;
 use rules::ends_refresh;
-use waveform::whole_frames;
 
 // The value of a reset event that asserts the line.
 const ASSERTED: u8 = 1;
@@ -45,7 +45,7 @@ fn cut_at(p: Uc8253, time: u64) -> Cut
 {
     let waveform = p.waveform;
     let at = greatest(p.now, time);
-    let frames = whole_frames(at, p.operation.started, p.waveform.frame_ns);
+    let frames = elapsed(p, at);
     let of = waveform.frames();
     Cut { at, frames, of }
 }

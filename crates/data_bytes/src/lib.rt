@@ -11,6 +11,7 @@ ghost use lib.IntN.{ℤ};
 ghost use Rattle.controller.specs.Setters.{withOld, withNew};
 ghost use Rattle.controller.specs.DataByte as rule;
 ghost use Rattle.controller.specs.Lent.{kept, Turns, TurnsRows, TurnsPlane};
+ghost use Rattle.controller.specs.Counting.{own};
 use command::Kind;
 use command::Params;
 use controller::Active;
@@ -89,7 +90,7 @@ fn pixel_byte(p: Uc8253, a: Active, byte: u8, plane: &mut [u8], rows: &mut [u64]
 
 // The registers reset, power off.
 fn soft_reset(p: Uc8253) -> Uc8253
-    ensures { λ r. ⌜ r ≡ rule.softReset p ⌝ }
+    ensures { λ r. ⌜ r ≡ rule.softReset own p ⌝ }
 {
     let config = p.config;
     let variant = config.variant;
@@ -121,7 +122,7 @@ fn take_byte(
     rows: &mut [u64],
 ) -> Uc8253
     ensures { λ r. ⌜ ((states : List ℤ) (numbers picture : List ℕ)
-        → Turns (rule.usedBy (rule.purposeOf a byte) a byte) p r old new (kept states) (kept numbers) (kept picture) rows) ⌝ }
+        → Turns (rule.usedBy own (rule.purposeOf a byte) a byte) p r old new (kept states) (kept numbers) (kept picture) rows) ⌝ }
 {
     let b = more(a);
     let used = purpose(a, byte);
@@ -156,7 +157,7 @@ fn take_byte(
 
 pub fn data_byte(p: Uc8253, byte: u8, old: &mut [u8], new: &mut [u8], rows: &mut [u64]) -> Uc8253
     ensures { λ r. ⌜ ((states : List ℤ) (numbers picture : List ℕ)
-        → Turns (rule.dataByte byte) p r old new (kept states) (kept numbers) (kept picture) rows) ⌝ }
+        → Turns (rule.dataByte own byte) p r old new (kept states) (kept numbers) (kept picture) rows) ⌝ }
 {
     let stage = p.stage;
     let current = stage.current;

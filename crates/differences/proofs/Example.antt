@@ -6,7 +6,7 @@ use Rattle.text.specs.Text.{ascii, digits}
 use Rattle.differences.specs.declared.finding.Finding.the-variants as finding
 use Rattle.differences.specs.Places.{firstPlace, findingBy}
 use Rattle.differences.specs.Apart.{apartOf}
-use Rattle.differences.specs.Lines.{kindWord, eventWords, rowWords, eventLine, rowLine, pixelLine, configLine, sizesLine, pixelsLine, refusedLine}
+use Rattle.differences.specs.Lines.{kindWord, eventWords, rowWords, eventLine, rowLine, pixelLine, configLine, rateLine, sizesLine, pixelsLine, refusedLine}
 use Rattle.differences.specs.Parts.{configPart, findingPart, pixelsPart}
 
 -- an event at a time below 256
@@ -32,11 +32,12 @@ pub said : (said-of both (event 0 4 1 ++ event 100 2 18) [] [] [] [] ≡ ascii "
 unfolding firstPlace eventLine rowLine pixelLine eventWords rowWords kindWord digits
 said = (refl, refl, refl, refl, refl, refl, refl)
 
-pub said-sizes : (configPart (0 ∷ 5 ∷ []) (0 ∷ 7 ∷ []) ≡ ascii "configuration byte 1: 5, 7\n")
-    × (configPart row row ≡ [])
+pub said-sizes : (configPart (0 ∷ 5 ∷ []) (0 ∷ 7 ∷ []) 1 2 ≡ ascii "configuration byte 1: 5, 7\n")
+    × (configPart row row 1_000_000_000 1_000_000_000 ≡ [])
+    × (configPart row row 1_000_000_000 32_768 ≡ ascii "configuration rate: 1000000000, 32768\n")
     × (pixelsPart 2 1 (0 ∷ 200 ∷ []) 2 1 (40 ∷ 0 ∷ []) ≡ ascii "2 of 2 pixels differ, by at most 200\n")
     × (pixelsPart 2 1 (0 ∷ 200 ∷ []) 2 1 (0 ∷ 200 ∷ []) ≡ ascii "0 of 2 pixels differ\n")
     × (pixelsPart 8 1 [] 16 1 [] ≡ ascii "panels of 8 by 1 and 16 by 1: pixels not compared\n")
     × (refusedLine 8 (ascii "b.capture") ≡ ascii "refused 8 b.capture\n")
-unfolding firstPlace configPart configLine pixelsPart pixelsLine apartOf sizesLine refusedLine digits
-said-sizes = (refl, refl, refl, refl, refl, refl)
+unfolding firstPlace configPart configLine rateLine pixelsPart pixelsLine apartOf sizesLine refusedLine digits
+said-sizes = (refl, refl, refl, refl, refl, refl, refl)

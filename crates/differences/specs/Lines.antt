@@ -66,6 +66,10 @@ pixelLine width a b k = ascii "pixel" ++ blank (k % width) ++ blank (k / width) 
 unfoldable pub configLine : List ℕ → List ℕ → ℕ → List ℕ
 configLine a b k = ascii "configuration byte" ++ blank k ++ ascii ": " ++ pair a b k ++ ascii "\n"
 
+-- `configuration rate: 1000000000, 32768`
+unfoldable pub rateLine : ℕ → ℕ → List ℕ
+rateLine a b = ascii "configuration rate:" ++ blank a ++ ascii "," ++ blank b ++ ascii "\n"
+
 -- `8 by 1`
 abbrev pub sizeWords : ℕ → ℕ → List ℕ
 sizeWords width height = digits width ++ ascii " by" ++ blank height

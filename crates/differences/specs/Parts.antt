@@ -10,15 +10,19 @@ use Rattle.differences.specs.declared.finding.Finding.{Finding}
 use Rattle.differences.specs.declared.finding.Finding.the-variants as finding
 use Rattle.differences.specs.Places.{firstPlace}
 use Rattle.differences.specs.Apart.{apartOf}
-use Rattle.differences.specs.Lines.{configLine, eventLine, rowLine, pixelLine, sizesLine, pixelsLine}
+use Rattle.differences.specs.Lines.{configLine, rateLine, eventLine, rowLine, pixelLine, sizesLine, pixelsLine}
 
--- the first byte in which two configurations differ, if there is one
-abbrev pub configBy : Place → List ℕ → List ℕ → List ℕ
-configBy (place.At k) a b = configLine a b k
-configBy place.Nowhere a b = []
+-- the rates of two configurations, if they differ
+abbrev pub ratePart : ℕ → ℕ → List ℕ
+ratePart rateA rateB = pick (eqb rateA rateB) [] (rateLine rateA rateB)
 
-unfoldable pub configPart : List ℕ → List ℕ → List ℕ
-configPart a b = configBy (firstPlace a b) a b
+-- the first of their 312 bytes that differs; where none does, their rates as read
+abbrev pub configBy : Place → List ℕ → List ℕ → ℕ → ℕ → List ℕ
+configBy (place.At k) a b rateA rateB = configLine a b k
+configBy place.Nowhere a b rateA rateB = ratePart rateA rateB
+
+unfoldable pub configPart : List ℕ → List ℕ → ℕ → ℕ → List ℕ
+configPart a b rateA rateB = configBy (firstPlace a b) a b rateA rateB
 
 -- what differs first, of the events, rows and pictures of A and B
 abbrev pub findingPart : Finding → List ℕ → List ℕ → List ℕ → List ℕ → ℕ → List ℕ → List ℕ → List ℕ

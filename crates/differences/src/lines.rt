@@ -102,6 +102,17 @@ pub(crate) fn config_line(text: &mut [u8], held: usize, a: &[u8], b: &[u8], k: u
     byte(text, end, b'\n')
 }
 
+// `configuration rate: 1000000000, 32768`
+pub(crate) fn rate_line(text: &mut [u8], held: usize, a: u64, b: u64) -> usize
+    ensures { λ r. ⌜ Puts (rule.rateLine a b) held r (now (text .entry)) (now (text .exit)) ⌝ }
+{
+    let head = put(text, held, b"configuration rate:");
+    let first = number(text, head, a);
+    let n = put(text, first, b",");
+    let end = number(text, n, b);
+    byte(text, end, b'\n')
+}
+
 // `8 by 1`
 fn size(text: &mut [u8], held: usize, width: u16, height: u16) -> usize
     ensures { λ r. ⌜ Puts (rule.sizeWords width height) held r (now (text .entry)) (now (text .exit)) ⌝ }

@@ -7,20 +7,39 @@ use crate::lines::config_line;
 use crate::lines::event_line;
 use crate::lines::pixel_line;
 use crate::lines::pixels_line;
+use crate::lines::rate_line;
 use crate::lines::row_line;
 use crate::lines::sizes_line;
 use crate::places::Place;
 use crate::places::first_byte;
 use text::put;
 
-// The first byte in which two configurations differ, if there is one.
-pub fn config_part(text: &mut [u8], held: usize, a: &[u8], b: &[u8]) -> usize
-    ensures { λ r. ⌜ Puts (rule.configPart (now (a .entry)) (now (b .entry))) held r (now (text .entry)) (now (text .exit)) ⌝ }
+// Two rates, if they differ.
+fn rate_part(text: &mut [u8], held: usize, rate_a: u64, rate_b: u64) -> usize
+    ensures { λ r. ⌜ Puts (rule.ratePart «rate_a» «rate_b») held r (now (text .entry)) (now (text .exit)) ⌝ }
+{
+    if rate_a == rate_b {
+        return put(text, held, b"");
+    }
+    rate_line(text, held, rate_a, rate_b)
+}
+
+// The first of 312 bytes in which two configurations differ; where there is none, their rates.
+pub fn config_part(
+    text: &mut [u8],
+    held: usize,
+    a: &[u8],
+    b: &[u8],
+    rate_a: u64,
+    rate_b: u64,
+) -> usize
+    ensures { λ r. ⌜ Puts (rule.configPart (now (a .entry)) (now (b .entry)) «rate_a» «rate_b»)
+        held r (now (text .entry)) (now (text .exit)) ⌝ }
 {
     let place = first_byte(a, b);
     match place {
         Place::At(k) => config_line(text, held, a, b, k),
-        Place::Nowhere => put(text, held, b""),
+        Place::Nowhere => rate_part(text, held, rate_a, rate_b),
     }
 }
 

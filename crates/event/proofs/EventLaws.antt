@@ -17,9 +17,10 @@ use Rattle.controller.specs.World.{World}
 use Rattle.controller.specs.TurnedBack.{turnedBack}
 use Rattle.controller.specs.Calls.{commandCall, dataCall, readCall, readAnswer, resetCall, advanceCall}
 use Rattle.controller.specs.Ask.{Answer, nothing, byte, count, low, due, bit, part}
+use Rattle.controller.specs.Counting.{own}
 use Rattle.event.specs.declared.Event.{Event}
 use Rattle.capture.specs.Little.{little}
-use Rattle.event.specs.Events.{eventAt, asserts, eventDone, eventRefused, readNumber, eventAnswer}
+use Rattle.event.specs.Events.{eventAt, asserts, eventDone, eventDoneBy, eventRefused, readNumber, eventAnswer}
 use Rattle.event.proofs.LittleLaws.{little-past, little-drop}
 
 -- ---- what is done, refused and answered, together
@@ -29,26 +30,26 @@ pub record Does (e : Event) (w v : World) (refused answer : ℕ) : Type 0 where
   pub gives : answer ≡ eventAnswer e w
 
 module _ (e : Event) (w v : World) (n : ℕ) where
-  pub does-command : e .kind ≡ 1 → v ≡ commandCall (e .time) (e .value) w → n ≡ turnedBack false (e .time) w → Does e w v n 257
-  unfolding eventDone eventRefused eventAnswer asserts
+  pub does-command : e .kind ≡ 1 → v ≡ commandCall own (e .time) (e .value) w → n ≡ turnedBack false (e .time) w → Does e w v n 257
+  unfolding eventDone eventDoneBy eventRefused eventAnswer asserts
   does-command k h r = record { done = rw k h; turned = rw k r; gives = rw k }
 
-  pub does-data : e .kind ≡ 2 → v ≡ dataCall (e .time) (e .value) w → n ≡ turnedBack false (e .time) w → Does e w v n 257
-  unfolding eventDone eventRefused eventAnswer asserts
+  pub does-data : e .kind ≡ 2 → v ≡ dataCall own (e .time) (e .value) w → n ≡ turnedBack false (e .time) w → Does e w v n 257
+  unfolding eventDone eventDoneBy eventRefused eventAnswer asserts
   does-data k h r = record { done = rw k h; turned = rw k r; gives = rw k }
 
   pub does-read : (b : ℕ) → e .kind ≡ 3 → v ≡ readCall (e .time) w → n ≡ turnedBack false (e .time) w
       → b ≡ readNumber (readAnswer (e .time) w) → Does e w v n b
-  unfolding eventDone eventRefused eventAnswer asserts
+  unfolding eventDone eventDoneBy eventRefused eventAnswer asserts
   does-read b k h r a = record { done = rw k h; turned = rw k r; gives = rw k a }
 
-  pub does-reset : e .kind ≡ 4 → v ≡ resetCall (e .time) (eqb (e .value) 1) w → n ≡ turnedBack (eqb (e .value) 1) (e .time) w
+  pub does-reset : e .kind ≡ 4 → v ≡ resetCall own (e .time) (eqb (e .value) 1) w → n ≡ turnedBack (eqb (e .value) 1) (e .time) w
       → Does e w v n 257
-  unfolding eventDone eventRefused eventAnswer asserts
+  unfolding eventDone eventDoneBy eventRefused eventAnswer asserts
   does-reset k h r = record { done = rw k h; turned = rw k r; gives = rw k }
 
   pub does-advance : e .kind ≡ 5 → v ≡ advanceCall (e .time) w → n ≡ turnedBack false (e .time) w → Does e w v n 257
-  unfolding eventDone eventRefused eventAnswer asserts
+  unfolding eventDone eventDoneBy eventRefused eventAnswer asserts
   does-advance k h r = record { done = rw k h; turned = rw k r; gives = rw k }
 
 -- none of the kinds, as a `match` on them leaves it
@@ -65,7 +66,7 @@ outside (suc (suc (suc (suc (suc zero))))) r = absurd (r .1 refl)
 outside (suc (suc (suc (suc (suc (suc n)))))) r = rw (le-leb 1 (suc (suc (suc (suc (suc (suc n)))))) (omega arith), lt-leb (suc (suc (suc (suc (suc (suc n)))))) 5 (omega arith))
 
 pub does-nothing : (e : Event) (w : World) → NoKind (e .kind) → Does e w w 0 257
-unfolding eventDone eventRefused eventAnswer
+unfolding eventDone eventDoneBy eventRefused eventAnswer
 does-nothing e w r =
     record {
       done = rw (ne-eqb (e .kind) 1 (r .0 .0 .0 .0 .1), ne-eqb (e .kind) 2 (r .0 .0 .0 .1), ne-eqb (e .kind) 3 (r .0 .0 .1), ne-eqb (e .kind) 4 (r .0 .1), ne-eqb (e .kind) 5 (r .1));

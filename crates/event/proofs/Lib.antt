@@ -1,3 +1,4 @@
 pub mod LittleLaws
 pub mod EventLaws
 pub mod RunLaws
+pub mod OneGigahertz

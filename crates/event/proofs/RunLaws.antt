@@ -6,7 +6,8 @@ use Prim.Native.Nat.{ℕ, _+_, _*_, _<_, _≤_}
 use native.Mathlib.Omega.{arith}
 use native.Mathlib.Decide.{decLe}
 use lib.Dec.{eqb}
-use lib.ListN.{length, getD, drop, length-set, length-drop}
+use lib.ListN.{length, getD, take, drop, length-set, length-take, length-drop}
+use lib.Seq.{getD-take}
 use Rattle.base.specs.Pick.{between}
 use Rattle.base.specs.Turns.{turns}
 use Rattle.base.proofs.Cases.{both}
@@ -19,7 +20,7 @@ use Rattle.controller.specs.Calls.{called}
 use Rattle.controller.specs.Sound.{Sound}
 use Rattle.controller.proofs.Sound.{sound-arrived, sound-command, sound-data, sound-reading, sound-reset, never-turned}
 use Rattle.event.specs.declared.Event.{Event}
-use Rattle.event.specs.Events.{eventsIn, eventAt, ran, asserts, eventDone, eventRefused, eventAnswer, ranTo, answersTo, earlier, refusedIn}
+use Rattle.event.specs.Events.{eventsIn, eventAt, ran, asserts, eventDone, eventDoneBy, eventRefused, eventAnswer, ranTo, answersTo, earlier, refusedIn}
 use Rattle.event.proofs.EventLaws.{event-drop}
 
 pub answers-length : (bytes : List ℕ) (n : ℕ) (w : World) (answers : List ℕ) → length (answersTo bytes n w answers) ≡ length answers
@@ -55,7 +56,7 @@ unfolding called
 sound-called a t f w k s = both Sound (eqb (turnedBack a t w) 0) (k (arrived t w) (sound-arrived t w s)) s
 
 pub sound-event : (e : Event) (w : World) → e .value < 256 → Sound w → Sound (eventDone e w)
-unfolding eventDone
+unfolding eventDone eventDoneBy
 sound-event e w h s =
     both Sound (eqb (e .kind) 1) (sound-called false (e .time) _ w (λ v. sound-command (e .value) v h) s)
     (both Sound (eqb (e .kind) 2) (sound-called false (e .time) _ w (λ v. sound-data (e .value) v h) s)
@@ -77,6 +78,9 @@ byte-anywhere bytes b k = elim (decLe (length bytes) k) [
   | yes h ↦ omega (arith, getD-past bytes k 0 h)
   | no h ↦ b k (omega (arith, h))
 ]
+
+pub front-byte : (n : ℕ) (l : List ℕ) → Bytes l → Bytes (take n l)
+front-byte n l h k q = rw (getD-take n l k 0 (omega (arith, length-take n l))) (byte-anywhere l h k)
 
 value-byte : (bytes : List ℕ) → Bytes bytes → (i : ℕ) → eventAt bytes i .value < 256
 unfolding eventAt

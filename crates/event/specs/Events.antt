@@ -11,6 +11,8 @@ use Rattle.controller.specs.declared.reads.Read.the-variants.{Byte, Nothing}
 use Rattle.controller.specs.World.{World}
 use Rattle.controller.specs.TurnedBack.{turnedBack}
 use Rattle.controller.specs.Calls.{commandCall, dataCall, readCall, readAnswer, resetCall, advanceCall}
+use Rattle.controller.specs.declared.Uc8253.{Uc8253}
+use Rattle.controller.specs.Counting.{Counting, own}
 use Rattle.event.specs.declared.Event.{Event}
 use Rattle.capture.specs.Little.{little}
 
@@ -26,15 +28,19 @@ eventAt bytes i = record { time = little bytes (i * 10) 8; kind = getD bytes (i 
 unfoldable pub asserts : Event → Bool
 asserts e = eqb (e .kind) 4 && eqb (e .value) 1
 
--- 1 command, 2 data, 3 read, 4 reset, 5 advance; any other kind leaves all as it is
-unfoldable pub eventDone : Event → World → World
-eventDone e w =
-    pick (eqb (e .kind) 1) (commandCall (e .time) (e .value) w)
-    (pick (eqb (e .kind) 2) (dataCall (e .time) (e .value) w)
+-- 1 command, 2 data, 3 read, 4 reset, 5 advance; any other kind leaves all as it is. The calls take two conversions (2026-05)
+unfoldable pub eventDoneBy : (Uc8253 → Counting) → Event → World → World
+eventDoneBy clock e w =
+    pick (eqb (e .kind) 1) (commandCall clock (e .time) (e .value) w)
+    (pick (eqb (e .kind) 2) (dataCall clock (e .time) (e .value) w)
     (pick (eqb (e .kind) 3) (readCall (e .time) w)
-    (pick (eqb (e .kind) 4) (resetCall (e .time) (eqb (e .value) 1) w)
+    (pick (eqb (e .kind) 4) (resetCall clock (e .time) (eqb (e .value) 1) w)
     (pick (eqb (e .kind) 5) (advanceCall (e .time) w)
     w))))
+
+-- by the record's own
+unfoldable pub eventDone : Event → World → World
+eventDone e w = eventDoneBy own e w
 
 -- the number by which that call is turned back; 0 for any other kind
 unfoldable pub eventRefused : Event → World → ℕ
@@ -52,6 +58,10 @@ eventAnswer e w = pick (eqb (e .kind) 3) (readNumber (readAnswer (e .time) w)) 2
 -- the first n events, one after the other
 unfoldable pub ranTo : List ℕ → ℕ → World → World
 ranTo bytes n w = turns n (λ i v. eventDone (eventAt bytes i) v) w
+
+-- the same by other conversions
+unfoldable pub ranToBy : (Uc8253 → Counting) → List ℕ → ℕ → World → World
+ranToBy clock bytes n w = turns n (λ i v. eventDoneBy clock (eventAt bytes i) v) w
 
 -- the lent answers, entry i set to the answer of event i for the first n events; past the end nothing is set
 unfoldable pub answersTo : List ℕ → ℕ → World → List ℕ → List ℕ

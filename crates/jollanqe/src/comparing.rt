@@ -10,7 +10,7 @@ use files::Got;
 use input::front;
 use log::Log;
 
-// The bytes of a configuration, and the numbers of a row.
+// The bytes of a configuration without its rate, and the numbers of a row.
 const CONFIG: usize = 312;
 
 const ROW: usize = 5;
@@ -80,7 +80,7 @@ fn first_rows(rows: &[u64], n: usize) -> &[u64] {
     rows
 }
 
-// The bytes of the configuration, which begin there.
+// The 312 bytes of the configuration, which begin there; a rate behind them is left out.
 pub(crate) fn config_at(file: &[u8], end: usize) -> &[u8] {
     if end <= file.len() {
         if CONFIG <= file.len() - end {
@@ -99,7 +99,10 @@ fn same_size(a: Uc8253Config, b: Uc8253Config) -> bool {
 }
 
 // Whether nothing differs.
-fn agrees(config: Place, finding: Finding) -> bool {
+fn agrees(config: Place, rate_a: u64, rate_b: u64, finding: Finding) -> bool {
+    if rate_a != rate_b {
+        return false;
+    }
     match config {
         Place::At(_) => false,
         Place::Nowhere => match finding {
@@ -150,6 +153,8 @@ fn report(
     let events_b = front(file_b, b.end);
     let config_a = config_at(file_a, a.end);
     let config_b = config_at(file_b, b.end);
+    let rate_a = panel_a.timing.rate;
+    let rate_b = panel_b.timing.rate;
     let same = same_size(panel_a, panel_b);
     let finding = find(
         same,
@@ -160,10 +165,11 @@ fn report(
         picture_a,
         picture_b,
     );
-    if agrees(differences::first_byte(config_a, config_b), finding) {
+    let place = differences::first_byte(config_a, config_b);
+    if agrees(place, rate_a, rate_b, finding) {
         return differences::agreement(text, 0);
     }
-    let head = differences::config_part(text, 0, config_a, config_b);
+    let head = differences::config_part(text, 0, config_a, config_b, rate_a, rate_b);
     let n = differences::finding_part(
         text,
         head,

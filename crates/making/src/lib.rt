@@ -115,6 +115,7 @@ fn no_config() -> Uc8253Config
         soft_reset: 0,
         hardware_reset: 0,
         frame_period: [0; 32],
+        rate: 0,
     };
     Uc8253Config {
         variant: Variant::Uc8253,

@@ -1,7 +1,7 @@
 -- The bits of a byte and the number of a pixel, by tests that antt computes at every byte and bit:
--- the other bits of a byte are 255 less it, and a byte's bits are those of its sixteenth and its rest.
+-- the other bits of a byte are 255 less it, and a number is 4 less 1 for an old white and less 2 for a new one.
 use mathlib.Core.Path.{_≡_, sym}
-use Prim.Native.Nat.{ℕ, _+_, _-_, _/_, _%_, _<_}
+use Prim.Native.Nat.{ℕ, _-_, _<_}
 use native.Mathlib.Omega.{arith}
 use lib.Dec.{T, eqb, eqb→eq}
 use borrow.Author.Tests.{eq-eqb, ne-eqb, eqb-true, eqb-false}
@@ -42,29 +42,15 @@ none-white b k white h l hk =
     let none : bitOf 0 k ≡ 0 = eqb→eq (bitOf 0 k) 0 (at 8 (λ k. eqb (bitOf 0 k) 0) none-test k hk) in
     rw none (sym (ne-eqb (bitOf b k) white (λ e. no-bit white (bitOf b k) h l (bit-small b k) e)))
 
--- ---- four pixels at once
-low-test : T (below 256 (λ b. below 4 (λ k. eqb (bitOf (b % 16) (k + 4)) (bitOf b (k + 4)))))
-low-test = tt
+-- ---- a number without a branch
+number-test : T (below 2 (λ o. below 2 (λ n. eqb (4 - o - n - n) (transitionOf (eqb o 1) (eqb n 1)))))
+unfolding transitionOf
+number-test = tt
 
-high-test : T (below 256 (λ b. below 4 (λ k. eqb (bitOf (b / 16) (k + 4)) (bitOf b k))))
-high-test = tt
-
-low-bit : (b k : ℕ) → b < 256 → k < 4 → bitOf (b % 16) (k + 4) ≡ bitOf b (k + 4)
-low-bit b k hb hk =
-    eqb→eq (bitOf (b % 16) (k + 4)) (bitOf b (k + 4))
-    (at 4 (λ k. eqb (bitOf (b % 16) (k + 4)) (bitOf b (k + 4)))
-    (at 256 (λ b. below 4 (λ k. eqb (bitOf (b % 16) (k + 4)) (bitOf b (k + 4)))) low-test b hb) k hk)
-
-high-bit : (b k : ℕ) → b < 256 → k < 4 → bitOf (b / 16) (k + 4) ≡ bitOf b k
-high-bit b k hb hk =
-    eqb→eq (bitOf (b / 16) (k + 4)) (bitOf b k)
-    (at 4 (λ k. eqb (bitOf (b / 16) (k + 4)) (bitOf b k))
-    (at 256 (λ b. below 4 (λ k. eqb (bitOf (b / 16) (k + 4)) (bitOf b k))) high-test b hb) k hk)
-
--- the high four bits of two bytes are the low four of their sixteenths
-pub number-high : (old new k : ℕ) → old < 256 → new < 256 → k < 4 → numberOfBit (old / 16) (new / 16) 1 (k + 4) ≡ numberOfBit old new 1 k
-number-high old new k ho hn hk = λ i. transitionOf (eqb (high-bit old k ho hk i) 1) (eqb (high-bit new k hn hk i) 1)
-
--- and the low four are those of their rests
-pub number-low : (old new k : ℕ) → old < 256 → new < 256 → k < 4 → numberOfBit (old % 16) (new % 16) 1 (k + 4) ≡ numberOfBit old new 1 (k + 4)
-number-low old new k ho hn hk = λ i. transitionOf (eqb (low-bit old k ho hk i) 1) (eqb (low-bit new k hn hk i) 1)
+pub number-of-ones : (old new k : ℕ) → 4 - bitOf old k - bitOf new k - bitOf new k ≡ numberOfBit old new 1 k
+number-of-ones old new k =
+    let o = bitOf old k in
+    let n = bitOf new k in
+    eqb→eq (4 - o - n - n) (transitionOf (eqb o 1) (eqb n 1))
+    (at 2 (λ n. eqb (4 - o - n - n) (transitionOf (eqb o 1) (eqb n 1)))
+    (at 2 (λ o. below 2 (λ n. eqb (4 - o - n - n) (transitionOf (eqb o 1) (eqb n 1)))) number-test o (bit-small old k)) n (bit-small new k))

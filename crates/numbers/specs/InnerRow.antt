@@ -1,10 +1,8 @@
 -- A pixel's number worked out by rows: a row's columns that lie inside both areas.
-use mathlib.Core.Path.{_≡_}
 use mathlib.Core.Bool.{Bool, false, _&&_}
 use mathlib.Core.List.{List}
-use Prim.Native.Nat.{ℕ, _+_, _*_, _/_, _%_, _^_, _≤_, _<_, min, max}
+use Prim.Native.Nat.{ℕ, _+_, _%_, _≤_, _<_, min, max}
 use lib.Dec.{eqb, leb}
-use lib.ListN.{getD}
 use Rattle.base.specs.Pick.{pick}
 use Rattle.registers.specs.declared.Area.{Area}
 use Rattle.ram.specs.Plane.{bitOf, bitAt}
@@ -29,18 +27,6 @@ numberIn q white old new c =
 -- the number of a pixel that shows bit k of a byte of each plane
 abbrev pub numberOfBit : ℕ → ℕ → ℕ → ℕ → ℕ
 numberOfBit old new white k = transitionOf (eqb (bitOf old k) white) (eqb (bitOf new k) white)
-
--- byte k of a number, the lowest first
-abbrev pub byteOf : ℕ → ℕ → ℕ
-byteOf n k = n / 256 ^ k % 256
-
--- a list of the numbers of four pixels an entry, by 16 × four bits of the old plane + four of the new one, 1 being white
-unfoldable pub Fours : List ℕ → Type 0
-Fours l = (old new k : ℕ) → old < 16 → new < 16 → k < 4 → byteOf (getD l (old * 16 + new) 0) k ≡ numberOfBit old new 1 (k + 4)
-
--- the numbers of the pixels of the low four bits of a byte of each plane
-unfoldable pub Four : ℕ → ℕ → ℕ → Type 0
-Four old new w = (k : ℕ) → k < 4 → byteOf w k ≡ numberOfBit old new 1 (k + 4)
 
 -- a byte begins at column x, and its eight columns lie in the panel and inside the row's
 unfoldable pub byteInside : ℕ → Row → ℕ → Bool

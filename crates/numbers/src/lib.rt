@@ -1,7 +1,5 @@
 // The number of each pixel of the panel: the table that drives it in a refresh (mod.rs,
 // `ram_pixel` and `luts_of_pixels`).
-mod fours;
-
 ghost use mathlib.Core.Path.{_≡_};
 ghost use Prim.Native.Nat.{ℕ, _<_, _≤_, _+_, _-_, _^_, min, max};
 ghost use lib.Dec.{eqb};
@@ -9,7 +7,7 @@ ghost use lib.ListN.{length};
 ghost use Rattle.base.specs.Pick.{pick};
 ghost use Rattle.ram.specs.Plane.{bitOf};
 ghost use Rattle.numbers.specs.Filled.{filled, rowsFilled};
-ghost use Rattle.numbers.specs.InnerRow.{noRow, rowAt, numberIn, numberOfBit, byteOf, byteInside, eightStraight, Some};
+ghost use Rattle.numbers.specs.InnerRow.{noRow, rowAt, numberIn, numberOfBit, byteInside, eightStraight, Some};
 ghost use Rattle.numbers.specs.Number.{mappingOf, reversedOf, shownAt, transitionOf, numberOf, someUndriven};
 use base::KK;
 use base::KW;
@@ -18,7 +16,6 @@ use base::WK;
 use base::WW;
 use config::Uc8253Geometry;
 use config::Variant;
-use fours::four;
 use ram::bit;
 use ram::byte_at;
 use ram::store;
@@ -211,24 +208,16 @@ fn whites(b: u8, white: u8) -> u8
     0
 }
 
-// The bytes of a number, the lowest first.
-fn put_four(numbers: &mut [u8], at: usize, four: u32)
-    requires { ⌜ at + 4 ≤ length (now numbers) ⌝ }
-    ensures { λ r. ⌜ now (numbers .exit) ≡ filled (byteOf four) at 4 (now (numbers .entry)) ⌝ }
-{
-    numbers[at] = (four % 256) as u8;
-    numbers[at + 1] = (four / 256 % 256) as u8;
-    numbers[at + 2] = (four / 65_536 % 256) as u8;
-    numbers[at + 3] = (four / 16_777_216 % 256) as u8;
-}
-
 // The numbers of eight pixels that have room, 1 being white: with no branch for a pixel.
 fn eight_of_ones(numbers: &mut [u8], at: usize, old: u8, new: u8)
     requires { ⌜ at + 8 ≤ length (now numbers) ⌝ }
     ensures { λ r. ⌜ now (numbers .exit) ≡ filled (numberOfBit old new 1) at 8 (now (numbers .entry)) ⌝ }
 {
-    put_four(numbers, at, four(old / 16, new / 16));
-    put_four(numbers, at + 4, four(old, new));
+    for k in 0usize..8 {
+        let o = (old >> (7 - k)) % 2;
+        let n = (new >> (7 - k)) % 2;
+        numbers[at + k] = 4 - o - n - n;
+    }
 }
 
 // The numbers of eight pixels of which some may lie past the end.

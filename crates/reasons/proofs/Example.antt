@@ -35,10 +35,11 @@ pub named : (wordsOf 1 ≡ ascii "refused 1: empty panel")
     × (wordsOf 10 ≡ ascii "refused 10: too many pixels")
     × (wordsOf 11 ≡ ascii "refused 11: malformed dump")
     × (wordsOf 12 ≡ ascii "refused 12: signals")
+    × (wordsOf 13 ≡ ascii "refused 13: rate out of range")
 unfolding wordsOf nameOf digits
-named = (refl, refl, refl, refl, refl, refl, refl, refl, refl, refl, refl, refl)
+named = (refl, refl, refl, refl, refl, refl, refl, refl, refl, refl, refl, refl, refl)
 
-pub nameless : (wordsOf 0 ≡ ascii "refused 0") × (wordsOf 13 ≡ ascii "refused 13") × (wordsOf 255 ≡ ascii "refused 255")
+pub nameless : (wordsOf 0 ≡ ascii "refused 0") × (wordsOf 20 ≡ ascii "refused 20") × (wordsOf 255 ≡ ascii "refused 255")
 unfolding wordsOf nameOf digits
 nameless = (refl, refl, refl)
 
@@ -72,7 +73,7 @@ pub told-offset : text (replicate 452 0 ++ trailer 150 14) ≡ ascii "refused 8:
 unfolding wordsOf nameOf reasonOf offsetOf countOf grouped digits
 told-offset = refl
 
-pub told-length : text (replicate 451 0 ++ trailer 140 14) ≡ ascii "refused 8: broken capture: 459 bytes, not 460"
+pub told-length : text (replicate 451 0 ++ trailer 140 14) ≡ ascii "refused 8: broken capture: 459 bytes, not 460 or 468"
 unfolding wordsOf nameOf reasonOf offsetOf countOf grouped digits
 told-length = refl
 
@@ -95,3 +96,8 @@ told-value = refl
 pub told-nothing : (reasonOf (behind-17 4 1) ≡ reason.Neither) × (becauseOf reason.Neither ≡ [])
 unfolding reasonOf badReason offsetOf countOf listed
 told-nothing = (refl, refl)
+
+-- with a rate
+pub rated-neither : reasonOf (replicate 320 0 ++ trailer 0 0) ≡ reason.Neither
+unfolding reasonOf badReason offsetOf countOf
+rated-neither = refl

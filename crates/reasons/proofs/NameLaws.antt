@@ -1,4 +1,4 @@
--- A number that is none of 1 to 12 has no name: it is 0, or past the end of the list.
+-- A number that is none of 1 to 13 has no name: it is 0, or past the end of the list.
 use mathlib.Core.Path.{_≡_, sym}
 use mathlib.Core.List.{[]}
 use Prim.Native.Nat.{ℕ, zero, suc, _<_}
@@ -16,11 +16,11 @@ past : (n x : ℕ) → NoneOf n x → (x ≡ 0 → ⊥) → n < x
 past zero x r z = omega arith
 past (suc n) x r z = omega (arith, past n x (r .0) z, r .1)
 
-pub unnamed : (x : ℕ) → NoneOf 12 x → [] ≡ nameOf x
+pub unnamed : (x : ℕ) → NoneOf 13 x → [] ≡ nameOf x
 unfolding nameOf
 unnamed x r = elim (decLe x 0) [
   | yes h ↦
       let z : x ≡ 0 = omega arith in
       rw z
-  | no h ↦ sym (getD-past names x [] (past 12 x r (λ z. omega arith)))
+  | no h ↦ sym (getD-past names x [] (past 13 x r (λ z. omega arith)))
 ]

@@ -12,13 +12,13 @@ use borrow.Author.Tests.{ltb-true, ltb-false, eqb-true, eqb-false, not-true, not
 use Rattle.base.specs.Pick.{pick}
 use Rattle.base.proofs.Cases.{both}
 use Rattle.config.specs.declared.Uc8253Config.{Uc8253Config}
-use Rattle.config.specs.Refusal.{emptyPanel, oversizedPanel, swingRefused, periodRefused, refusal}
-use Rattle.capture.specs.Layout.{kindAt, valueAt, variantAt, flagsAt, offsetOf, countOf, configIn}
+use Rattle.config.specs.Refusal.{emptyPanel, oversizedPanel, swingRefused, periodRefused, rateRefused, refusal}
+use Rattle.capture.specs.Layout.{kindAt, valueAt, variantAt, flagsAt, offsetOf, countOf, rated, configIn}
 use Rattle.capture.specs.Refused.{broken, listed, badConfig, badEvent, fileRefused}
-use Rattle.capture.proofs.CaptureLaws.{Whole}
+use Rattle.capture.proofs.CaptureLaws.{Whole, either-length}
 use Rattle.reasons.specs.declared.causes.Reason.{Reason}
 use Rattle.reasons.specs.declared.causes.Reason.the-variants as reason
-use Rattle.reasons.specs.Reasons.{firstFault, badReason, reasonOf, refusalOf}
+use Rattle.reasons.specs.Reasons.{lengthFits, firstFault, badReason, reasonOf, refusalOf}
 use Rattle.reasons.proofs.EventLaws.{picked, known-some, known-none, First, Faulty, events-faulty, events-number}
 
 -- ---- which refusal it is of
@@ -40,16 +40,21 @@ unfolding badReason badConfig
 config-number config = simp (refusal-picked, either)
 
 pub number-is : (file : List ℕ) → refusalOf (reasonOf file) ≡ pick (broken file) 8 (pick (badEvent file) 9 0)
-unfolding reasonOf broken
+unfolding reasonOf broken rated
 number-is file = simp (refusal-picked, either, bad-number)
 
 -- no configuration is refused as 8 or 9
-refusal-most : (c : Uc8253Config) → refusal c ≤ 4
+abbrev Other : ℕ → Type 0
+Other n = (n ≡ 8 → ⊥) × (n ≡ 9 → ⊥)
+
+refusal-other : (c : Uc8253Config) → Other (refusal c)
 unfolding refusal
-refusal-most c =
-    both (λ (n : ℕ). n ≤ 4) (emptyPanel c) (omega arith)
-    (both (λ (n : ℕ). n ≤ 4) (oversizedPanel c) (omega arith)
-    (both (λ (n : ℕ). n ≤ 4) (swingRefused c) (omega arith) (both (λ (n : ℕ). n ≤ 4) (periodRefused c) (omega arith) (omega arith))))
+refusal-other c =
+    both Other (emptyPanel c) ((λ e. omega arith), (λ e. omega arith))
+    (both Other (oversizedPanel c) ((λ e. omega arith), (λ e. omega arith))
+    (both Other (swingRefused c) ((λ e. omega arith), (λ e. omega arith))
+    (both Other (periodRefused c) ((λ e. omega arith), (λ e. omega arith))
+    (both Other (rateRefused c) ((λ e. omega arith), (λ e. omega arith)) ((λ e. omega arith), (λ e. omega arith))))))
 
 none-of : (r : Reason) → refusalOf r ≡ 0 → r ≡ reason.Neither
 none-of (reason.Short bytes) e = absurd (omega arith)
@@ -73,11 +78,10 @@ is-nine true t e = ((λ h. absurd (omega arith)), (λ h. absurd (true≢false (h
 is-nine false true e = ((λ h. (refl, refl)), (λ h. e))
 is-nine false false e = ((λ h. absurd (omega arith)), (λ h. absurd (true≢false (sym (h .1)))))
 
-is-neither : (s t : Bool) {n x : ℕ} → n ≡ pick s 8 (pick t 9 0) → x ≤ 4
-    → n ≡ 0 ↔ (pick s 8 (pick t 9 x) ≡ 8 → ⊥) × (pick s 8 (pick t 9 x) ≡ 9 → ⊥)
+is-neither : (s t : Bool) {n x : ℕ} → n ≡ pick s 8 (pick t 9 0) → Other x → n ≡ 0 ↔ Other (pick s 8 (pick t 9 x))
 is-neither true t e m = ((λ h. absurd (omega arith)), (λ h. absurd (h .0 refl)))
 is-neither false true e m = ((λ h. absurd (omega arith)), (λ h. absurd (h .1 refl)))
-is-neither false false e m = ((λ h. ((λ p. omega arith), (λ p. omega arith))), (λ h. e))
+is-neither false false e m = ((λ h. m), (λ h. e))
 
 is-same : (s t : Bool) (x : ℕ) {n : ℕ} → n ≡ pick s 8 (pick t 9 0) → (n ≡ 0 → ⊥) → n ≡ pick s 8 (pick t 9 x)
 is-same true t x e h = e
@@ -97,7 +101,7 @@ module _ (file : List ℕ) where
   pub neither-exactly : reasonOf file ≡ reason.Neither ↔ (fileRefused file ≡ 8 → ⊥) × (fileRefused file ≡ 9 → ⊥)
   unfolding fileRefused
   neither-exactly =
-      let i = is-neither (broken file) (badEvent file) (number-is file) (refusal-most (configIn file)) in
+      let i = is-neither (broken file) (badEvent file) (number-is file) (refusal-other (configIn file)) in
       ((λ e. i .0 (ap refusalOf e)), (λ h. none-of (reasonOf file) (i .1 h)))
 
   -- a reason that is told is of the refusal that the file meets
@@ -107,11 +111,16 @@ module _ (file : List ℕ) where
       is-same (broken file) (badEvent file) (refusal (configIn file)) (number-is file) (λ z. told (none-of (reasonOf file) z))
 
 -- ---- what a reason says of a file
+neither : (s t : Bool) → (s || t) ≡ false → (s ≡ false) × (t ≡ false)
+neither true t e = absurd (true≢false e)
+neither false t e = (refl, e)
+
 abbrev pub Holds : List ℕ → Reason → Type 0
 Holds file (reason.Short bytes) = (bytes ≡ length file) × (bytes < 320)
 Holds file (reason.Long bytes) = (bytes ≡ length file) × (65536 < bytes)
 Holds file (reason.Offset offset count) = (offset ≡ offsetOf file) × (count ≡ countOf file) × (offset ≡ 10 * count → ⊥)
-Holds file (reason.Length bytes offset) = (bytes ≡ length file) × (offset ≡ offsetOf file) × (bytes ≡ offset + 320 → ⊥)
+Holds file (reason.Length bytes offset) =
+    (bytes ≡ length file) × (offset ≡ offsetOf file) × (bytes ≡ offset + 320 → ⊥) × (bytes ≡ offset + 328 → ⊥)
 Holds file (reason.Variant v) = (v ≡ variantAt file (offsetOf file)) × (1 < v)
 Holds file (reason.Flags f) = (f ≡ flagsAt file (offsetOf file)) × (7 < f)
 Holds file (reason.Kind i kind) = Faulty file (countOf file) (reason.Kind i kind)
@@ -143,7 +152,9 @@ module _ (file : List ℕ) where
       picked (Holds file) (ltb (length file) 320) (λ t. (refl, ltb-true _ _ t))
       (λ _. picked (Holds file) (ltb 65536 (length file)) (λ t. (refl, ltb-true _ _ t))
       (λ _. picked (Holds file) (not (eqb (offsetOf file) (10 * countOf file))) (λ t. (refl, refl, eqb-false _ _ (not-true _ t)))
-      (λ _. picked (Holds file) (not (eqb (length file) (offsetOf file + 320))) (λ t. (refl, refl, eqb-false _ _ (not-true _ t)))
+      (λ _. picked (Holds file) (not (lengthFits (length file) (offsetOf file))) (λ t.
+      let apart = neither (eqb (length file) (offsetOf file + 320)) _ (not-true _ t) in
+      (refl, refl, eqb-false _ _ (apart .0), eqb-false _ _ (apart .1)))
       (λ _. bad-holds))))
 
 -- ---- and each test before the one that is named passes
@@ -186,13 +197,13 @@ module _ (file : List ℕ) where
       picked (Passed file) (ltb (length file) 320) (λ _. tt)
       (λ s. picked (Passed file) (ltb 65536 (length file)) (λ _. ltb-false _ _ s)
       (λ l. picked (Passed file) (not (eqb (offsetOf file) (10 * countOf file))) (λ _. (ltb-false _ _ s, ltb-false _ _ l))
-      (λ o. picked (Passed file) (not (eqb (length file) (offsetOf file + 320)))
+      (λ o. picked (Passed file) (not (lengthFits (length file) (offsetOf file)))
       (λ _. (ltb-false _ _ s, ltb-false _ _ l, eqb-true _ _ (not-false _ o)))
       (λ e. bad-passed (record {
         least = ltb-false _ _ s;
         most = ltb-false _ _ l;
         offset-is = eqb-true _ _ (not-false _ o);
-        length-is = eqb-true _ _ (not-false _ e);
+        length-is = either-length (length file) (offsetOf file) (not-false _ e);
       })))))
 
 -- ---- the event named is not listed, and every event before it is: for its kind no value is listed, or another one is

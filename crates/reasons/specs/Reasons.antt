@@ -1,5 +1,5 @@
 -- Which test of refusals 8 and 9 a capture file fails first, in the order of `broken` and then `badEvent`.
-use mathlib.Core.Bool.{Bool, not}
+use mathlib.Core.Bool.{Bool, _||_, not}
 use mathlib.Core.List.{List}
 use Prim.Native.Nat.{ℕ, zero, suc, _+_, _*_}
 use lib.Dec.{eqb, ltb}
@@ -31,13 +31,17 @@ badReason file offset count =
     (pick (ltb 7 (flagsAt file offset)) (reason.Flags (flagsAt file offset))
     (firstFault file 0 count))
 
--- 8: file under 320 or over 65,536 bytes, trailer offset not 10 × its count, or file length not offset + 320; then 9
+-- the lengths of a file by its trailer's offset: without a rate, and with one
+abbrev pub lengthFits : ℕ → ℕ → Bool
+lengthFits bytes offset = eqb bytes (offset + 320) || eqb bytes (offset + 328)
+
+-- 8: file under 320 or over 65,536 bytes, trailer offset not 10 × its count, or file length neither offset + 320 nor offset + 328; then 9
 unfoldable pub reasonOf : List ℕ → Reason
 reasonOf file =
     pick (ltb (length file) 320) (reason.Short (length file))
     (pick (ltb 65536 (length file)) (reason.Long (length file))
     (pick (not (eqb (offsetOf file) (10 * countOf file))) (reason.Offset (offsetOf file) (countOf file))
-    (pick (not (eqb (length file) (offsetOf file + 320))) (reason.Length (length file) (offsetOf file))
+    (pick (not (lengthFits (length file) (offsetOf file))) (reason.Length (length file) (offsetOf file))
     (badReason file (offsetOf file) (countOf file)))))
 
 -- the refusal that a reason is of, 0 for none

@@ -7,7 +7,7 @@ use Rattle.reasons.specs.declared.causes.Reason.{Reason}
 use Rattle.reasons.specs.declared.causes.Reason.the-variants as reason
 use Rattle.reasons.specs.Groups.{grouped}
 
--- the names of 1 to 12, by number, behind a colon; any other number has none
+-- the names of 1 to 13, by number, behind a colon; any other number has none
 abbrev pub names : List (List ℕ)
 names =
     []
@@ -23,6 +23,7 @@ names =
     ∷ ascii ": too many pixels"
     ∷ ascii ": malformed dump"
     ∷ ascii ": signals"
+    ∷ ascii ": rate out of range"
     ∷ []
 
 unfoldable pub nameOf : ℕ → List ℕ
@@ -38,7 +39,8 @@ offsetWords offset count =
     ascii ": offset " ++ grouped offset ++ ascii " for " ++ grouped count ++ ascii " events, not " ++ grouped (10 * count)
 
 abbrev pub lengthWords : ℕ → ℕ → List ℕ
-lengthWords bytes offset = ascii ": " ++ grouped bytes ++ ascii " bytes, not " ++ grouped (offset + 320)
+lengthWords bytes offset =
+    ascii ": " ++ grouped bytes ++ ascii " bytes, not " ++ grouped (offset + 320) ++ ascii " or " ++ grouped (offset + 328)
 
 -- events are counted from 0
 abbrev pub kindWords : ℕ → ℕ → List ℕ

@@ -5,7 +5,7 @@ pub enum Reason {
     Long(u64),
     // The trailer's offset is not 10 × its count.
     Offset { offset: u32, count: u32 },
-    // The file's length is not that offset + 320.
+    // The file's length is neither that offset + 320 nor, with a rate, that offset + 328.
     Length { bytes: u64, offset: u32 },
     // 9: a variant above 1, or a flag above bit 2.
     Variant(u8),

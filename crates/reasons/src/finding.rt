@@ -11,10 +11,12 @@ const OFFSET_BACK: usize = 8;
 
 const COUNT_BACK: usize = 4;
 
-// Bytes of an event; bytes after the events; the largest file.
+// Bytes of an event; bytes after the events, without a rate and with one; the largest file.
 pub(crate) const EVENT: u64 = 10;
 
 pub(crate) const TAIL: u64 = 320;
+
+pub(crate) const RATED_TAIL: u64 = 328;
 
 const MOST_BYTES: u64 = 65_536;
 
@@ -57,6 +59,16 @@ pub fn config_reason(config: &[u8]) -> Reason
     bad(config, 0, 0)
 }
 
+// Whether a file has one of the two lengths that its trailer's offset allows.
+fn length_fits(bytes: u64, offset: u32) -> bool
+    ensures { λ r. ⌜ r ≡ rule.lengthFits bytes offset ⌝ }
+{
+    if bytes == offset as u64 + TAIL {
+        return true;
+    }
+    bytes == offset as u64 + RATED_TAIL
+}
+
 // The first test of 8 and of 9 that fails.
 pub fn reason(file: &[u8]) -> Reason
     ensures { λ r. ⌜ r ≡ rule.reasonOf (now (file .entry)) ⌝ }
@@ -73,7 +85,7 @@ pub fn reason(file: &[u8]) -> Reason
     if offset as u64 != EVENT * count as u64 {
         return Reason::Offset { offset, count };
     }
-    if bytes != offset as u64 + TAIL {
+    if !length_fits(bytes, offset) {
         return Reason::Length { bytes, offset };
     }
     bad(file, offset, count)

@@ -5,6 +5,7 @@ ghost use Rattle.reasons.specs.Groups.{grouped};
 ghost use Rattle.reasons.specs.Wording as rule;
 use crate::causes::Reason;
 use crate::finding::EVENT;
+use crate::finding::RATED_TAIL;
 use crate::finding::TAIL;
 use crate::groups;
 use text::decimal;
@@ -27,6 +28,7 @@ fn name(text: &mut [u8], held: usize, number: u8) -> usize
         10 => put(text, held, b": too many pixels"),
         11 => put(text, held, b": malformed dump"),
         12 => put(text, held, b": signals"),
+        13 => put(text, held, b": rate out of range"),
         _ => put(text, held, b""),
     }
 }
@@ -62,7 +64,9 @@ fn length_words(text: &mut [u8], held: usize, bytes: u64, offset: u32) -> usize
     ensures { λ r. ⌜ Puts (rule.lengthWords bytes offset) held r (now (text .entry)) (now (text .exit)) ⌝ }
 {
     let n = between(text, held, b": ", bytes, b" bytes, not ");
-    groups::grouped(text, n, offset as u64 + TAIL)
+    let plain = groups::grouped(text, n, offset as u64 + TAIL);
+    let or = put(text, plain, b" or ");
+    groups::grouped(text, or, offset as u64 + RATED_TAIL)
 }
 
 fn kind_words(text: &mut [u8], held: usize, event: u32, kind: u8) -> usize

@@ -7,6 +7,7 @@ mod refused;
 mod uses;
 
 pub use changes::close;
+pub use changes::elapsed;
 pub use changes::rested;
 pub use changes::start;
 pub use changes::tell;

@@ -5,8 +5,7 @@ use mathlib.Core.List.{List}
 use Prim.Native.Nat.{ℕ, _+_, _<_}
 use native.Mathlib.Omega.{arith}
 use lib.Dec.{eqb}
-use lib.ListN.{take, length-take}
-use lib.Seq.{getD-take}
+use lib.ListN.{take}
 use borrow.Author.Tests.{eqb-false}
 use Rattle.base.specs.Pick.{pick}
 use Rattle.base.specs.RefusalNumbers.{refusalNumber}
@@ -19,7 +18,7 @@ use Rattle.controller.specs.TurnedBack.{makingRefused}
 use Rattle.controller.specs.Calls.{made, zeros}
 use Rattle.event.specs.Events.{eventsIn, refusedIn}
 use Rattle.events.specs.Played as events
-use Rattle.event.proofs.RunLaws.{Bytes, byte-anywhere}
+use Rattle.event.proofs.RunLaws.{Bytes, byte-anywhere, front-byte}
 use Rattle.events.proofs.PlayLaws.{play-taken}
 use Rattle.output.specs.declared.Form.{Form}
 use Rattle.output.specs.declared.Form.the-variants as form
@@ -69,9 +68,6 @@ making-taken f file b e = go (eqb (testedBy f file) 0) refl
 gray-byte : (file : List ℕ) → Bytes file → configIn file .optics .«initial_gray» < 256
 unfolding configIn
 gray-byte file h = byte-anywhere file h (offsetOf file + 6)
-
-front-byte : (n : ℕ) (l : List ℕ) → Bytes l → Bytes (take n l)
-front-byte n l h k q = rw (getD-take n l k 0 (omega (arith, length-take n l))) (byte-anywhere l h k)
 
 pub every-event-accepted : (f : Form) (file : List ℕ) (b : Buffers) → Bytes file → playRefused f file b ≡ 0
     → refusedIn (eventsOf file) (eventsIn (eventsOf file)) (made (configIn file) b) ≡ 0

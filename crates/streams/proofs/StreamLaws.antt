@@ -38,6 +38,7 @@ use Rattle.controller.specs.TurnedBack.{badWork, foreignRecord, lentFits, endsR
 use Rattle.controller.specs.Arrives.{endedBy, ended, arrived}
 use Rattle.controller.specs.DataByte.{countedOf, doing, purposeOf, pixelChip, pastWindow, olderByte, newerByte, usedBy, dataByte, moreOf}
 use Rattle.controller.specs.Calls.{called}
+use Rattle.controller.specs.Counting.{own}
 use Rattle.controller.proofs.Parts.{Stands, stands, good-cursor, next-stands}
 use Rattle.event.specs.declared.Event.{Event}
 use Rattle.streams.specs.declared.Change.{Change}
@@ -178,15 +179,15 @@ module _ (p : Uc8253) (b : Buffers) (a : Active) where
 
   byte-at : (older : Bool) → Streams older p b a → (c : Cursor) (n t v : ℕ) (l : List ℕ)
       → pick (ltb (area .y1) (c .y)) (a .«past_reported») true ≡ true
-      → dataByte v (flowed older p b a c n t l) ≡ flowed older p b a (onFrom area c) (countedOf n) t (putAt area c v l)
+      → dataByte own v (flowed older p b a c n t l) ≡ flowed older p b a (onFrom area c) (countedOf n) t (putAt area c v l)
   unfolding dataByte
-  byte-at true s c n t v l f = ap (λ (u : Use). usedBy u (along c n) v (flowed true p b a c n t l)) (used-for true s c n v) ∙ put-older c n t v l f
-  byte-at false s c n t v l f = ap (λ (u : Use). usedBy u (along c n) v (flowed false p b a c n t l)) (used-for false s c n v) ∙ put-newer c n t v l f
+  byte-at true s c n t v l f = ap (λ (u : Use). usedBy own u (along c n) v (flowed true p b a c n t l)) (used-for true s c n v) ∙ put-older c n t v l f
+  byte-at false s c n t v l f = ap (λ (u : Use). usedBy own u (along c n) v (flowed false p b a c n t l)) (used-for false s c n v) ∙ put-newer c n t v l f
 
   -- an event of the run
   data-at : (older : Bool) → Streams older p b a → (e : Event) (c : Cursor) (n t : ℕ) (l : List ℕ) → Stands c
       → length l ≡ length (planeOf older b) → e .kind ≡ 2
-      → Does e (flowed older p b a c n t l) (dataByte (e .value) (arrived (e .time) (flowed older p b a c n t l))) 0 257
+      → Does e (flowed older p b a c n t l) (dataByte own (e .value) (arrived (e .time) (flowed older p b a c n t l))) 0 257
   unfolding called
   data-at older s e c n t l d q k =
       let w : World = flowed older p b a c n t l in
@@ -202,7 +203,7 @@ module _ (p : Uc8253) (b : Buffers) (a : Active) where
   one-more older s e c n t l d q f =
       let g = each (eqb (e .kind) 2) _ f in
       sym (data-at older s e c n t l d q (eqb-true (e .kind) 2 (g .0)) .done)
-      ∙ ap (dataByte (e .value)) (arrived-at older s c n t (e .time) l)
+      ∙ ap (dataByte own (e .value)) (arrived-at older s c n t (e .time) l)
       ∙ byte-at older s c n (max t (e .time)) (e .value) l (g .1)
 
 -- ---- where the cursor stands, and how long the plane is
@@ -249,7 +250,7 @@ module _ (older : Bool) (p : Uc8253) (b : Buffers) (a : Active) (s : Streams old
 
   does-at : (k j : ℕ) → j < k → AllFlow bytes i k (writtenOf (p .regs)) (a .cursor) (a .«past_reported»)
       → Does (eventAt bytes (i + j)) (reached j)
-      (dataByte (eventAt bytes (i + j) .value) (arrived (eventAt bytes (i + j) .time) (reached j))) 0 257
+      (dataByte own (eventAt bytes (i + j) .value) (arrived (eventAt bytes (i + j) .time) (reached j))) 0 257
   unfolding flowsBy
   does-at k j h all =
       data-at p b a older s (eventAt bytes (i + j)) _ _ _ _ (stands-at j) (long-at j) (eqb-true (eventAt bytes (i + j) .kind) 2 (each (eqb (eventAt bytes (i + j) .kind) 2) _ (all j h) .0))

@@ -59,7 +59,7 @@ struct Ending {
 
 fn end_state(w: Waveform, e: Ending, start: u64) -> u64 {
     if e.cut {
-        let n = whole_frames(e.elapsed, 0, w.frame_ns);
+        let n = whole_frames(e.elapsed, w.frame_ns);
         return w.transfer_first(e.lut, e.swing, e.black, n).apply(start);
     }
     w.transfer(e.lut, e.swing, e.black).apply(start)

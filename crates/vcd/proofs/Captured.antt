@@ -3,11 +3,11 @@
 use mathlib.Core.Path.{_≡_, refl, sym, ap, _∙_}
 use mathlib.Core.Bool.{Bool, true, false, _||_}
 use mathlib.Core.List.{List, [], _∷_, _++_}
+use mathlib.Core.Logic.{inl}
 use Prim.Native.Nat.{ℕ, zero, suc, _+_, _-_, _*_, _≤_, _<_}
-use native.Mathlib.Nat.{add-zero}
 use native.Mathlib.Omega.{arith}
 use lib.Dec.{eqb}
-use lib.ListN.{length, getD, length-append, List·getD-append}
+use lib.ListN.{length, getD, length-append}
 use lib.Seq.{getD-append-add, take-at}
 use borrow.Author.Tests.{eqb-true, eq-eqb}
 use Rattle.base.specs.Pick.{pick}
@@ -15,12 +15,13 @@ use Rattle.base.proofs.Cases.{by-cases}
 use Rattle.config.specs.declared.Uc8253Config.{Uc8253Config}
 use Rattle.config.specs.Refusal.{refusal}
 use Rattle.capture.specs.Little.{little}
-use Rattle.capture.specs.Layout.{kindAt, valueAt, periodsOf, configOf, offsetOf, countOf, pixelCount}
+use Rattle.capture.specs.Layout.{kindAt, valueAt, configOf, offsetOf, countOf, pixelCount}
 use Rattle.capture.specs.Layout as layout
 use Rattle.capture.specs.Refused.{listed, allListed, broken, badConfig, badEvent, fileRefused, captureRefused}
 use Rattle.capture.specs.Reading.{eventsEnd, eventsOf}
 use Rattle.capture.proofs.ListedLaws.{listed-all}
-use Rattle.capture.proofs.Placed.{byte-behind, little-behind}
+use Rattle.capture.proofs.Placed.{little-behind, bad-same}
+use Rattle.capture.proofs.RateLaws.{parts-offset, parts-byte, plain-config}
 use Rattle.capture.proofs.CaptureLaws.{unbroken, events-end, program-takes}
 use Rattle.controller.specs.World.{Buffers}
 use Rattle.controller.specs.TurnedBack.{makingRefused}
@@ -33,45 +34,6 @@ use Rattle.vcd.specs.Played.{calls, dumpPlayed}
 use Rattle.vcd.specs.Captured.{trailer, captureOf, asCapture}
 use Rattle.vcd.proofs.Calls.{AllFit, lowest-number, calls-run}
 use Rattle.vcd.proofs.Taken.{passed, dump-fits}
-
--- ---- the 312 bytes of a configuration stand at a place of a file: it is read from there as from these bytes
-module _ (file config : List ℕ) (at : ℕ) (same : (p : ℕ) → p < 312 → getD file (at + p) 0 ≡ getD config p 0) where
-  little-same : (p n : ℕ) → p + n ≤ 312 → little file (at + p) n ≡ little config p n
-  little-same p zero h = refl
-  little-same p (suc n) h =
-      let e : suc (at + p) ≡ at + suc p = omega arith in
-      rw (same p (omega arith), e, little-same (suc p) n (omega arith))
-
-  periods-same : (n : ℕ) → n ≤ 32 → periodsOf file at n ≡ periodsOf config 0 n
-  periods-same zero h = refl
-  periods-same (suc n) h =
-      let e : at + 56 + 8 * n ≡ at + (0 + 56 + 8 * n) = omega arith in
-      rw (e, little-same (0 + 56 + 8 * n) 8 (omega arith), periods-same n (omega arith))
-
-  first-same : getD file at 0 ≡ getD config 0 0
-  first-same = ap (λ (p : ℕ). getD file p 0) (sym (add-zero at)) ∙ same 0 (omega arith)
-
-  config-same : configOf file at ≡ configOf config 0
-  config-same =
-      simp (
-        first-same,
-        same 1 (omega arith),
-        same 6 (omega arith),
-        same 7 (omega arith),
-        little-same 2 2 (omega arith),
-        little-same 4 2 (omega arith),
-        little-same 8 8 (omega arith),
-        little-same 16 8 (omega arith),
-        little-same 24 8 (omega arith),
-        little-same 32 8 (omega arith),
-        little-same 40 8 (omega arith),
-        little-same 48 8 (omega arith),
-        periods-same 32 (omega arith),
-      )
-
-  bad-same : badConfig file at ≡ badConfig config 0
-  unfolding badConfig
-  bad-same = rw (first-same, same 1 (omega arith))
 
 -- ---- events in front of other bytes: ten bytes each, and each is listed
 length-written : (es : List Event) → length (written es) ≡ 10 * length es
@@ -98,37 +60,34 @@ module _ (config : List ℕ) (es : List Event) (long : length config ≡ 312) (f
   length-file =
       omega (arith, long, length-written es, length-append (written es) (config ++ trailer es), length-append config (trailer es))
 
-  trailer-at : (p k : ℕ) → p + k ≡ 8 → little (captureOf config es) (length (captureOf config es) - k) 4 ≡ little (trailer es) p 4
-  unfolding captureOf
-  trailer-at p k h =
-      let place : length (captureOf config es) - k ≡ length (written es) + (length config + p) =
-      omega (arith, long, h, length-written es, length-file) in
-      ap (λ (q : ℕ). little (captureOf config es) q 4) place
-      ∙ little-behind (written es) (config ++ trailer es) (length config + p) 4
-      ∙ little-behind config (trailer es) p 4
-
-  offset-file : offsetOf (captureOf config es) ≡ 10 * length es
-  unfolding offsetOf
-  offset-file = trailer-at 0 8 refl ∙ lowest-number 4 (10 * length es) (lowest 4 (length es)) (omega (arith, few))
-
-  count-file : countOf (captureOf config es) ≡ length es
-  unfolding countOf
-  count-file = trailer-at 4 4 refl ∙ lowest-number 4 (length es) [] (omega (arith, few))
+  points : little (trailer es) 0 4 ≡ length (written es)
+  points = lowest-number 4 (10 * length es) (lowest 4 (length es)) (omega (arith, few)) ∙ sym (length-written es)
 
   offset-length : offsetOf (captureOf config es) ≡ length (written es)
-  offset-length = offset-file ∙ sym (length-written es)
+  unfolding captureOf
+  offset-length = parts-offset (written es) config [] (trailer es) long refl points
+
+  offset-file : offsetOf (captureOf config es) ≡ 10 * length es
+  offset-file = offset-length ∙ length-written es
+
+  count-file : countOf (captureOf config es) ≡ length es
+  unfolding countOf captureOf
+  count-file =
+      let place : length (captureOf config es) - 4 ≡ length (written es) + (length config + 4) =
+      omega (arith, long, length-written es, length-file) in
+      ap (λ (q : ℕ). little (captureOf config es) q 4) place
+      ∙ little-behind (written es) (config ++ trailer es) (length config + 4) 4
+      ∙ little-behind config (trailer es) 4 4
+      ∙ lowest-number 4 (length es) [] (omega (arith, few))
 
   config-byte : (p : ℕ) → p < 312 → getD (captureOf config es) (offsetOf (captureOf config es) + p) 0 ≡ getD config p 0
   unfolding captureOf
-  config-byte p h =
-      ap (λ (q : ℕ). getD (captureOf config es) (q + p) 0) offset-length
-      ∙ byte-behind (written es) (config ++ trailer es) p
-      ∙ List·getD-append config (trailer es) 0 p (omega (arith, h, long))
+  config-byte = parts-byte (written es) config [] (trailer es) long refl points
 
   -- its configuration is that of the 312 bytes
   pub captured-config : layout.configIn (captureOf config es) ≡ configOf config 0
-  unfolding layout.configIn
-  captured-config = config-same (captureOf config es) config (offsetOf (captureOf config es)) config-byte
+  unfolding captureOf
+  captured-config = plain-config (written es) config (trailer es) long refl points
 
   -- it is not broken, and has no bad event
   unbroken-file : broken (captureOf config es) ≡ false
@@ -136,7 +95,7 @@ module _ (config : List ℕ) (es : List Event) (long : length config ≡ 312) (f
     least = omega (arith, length-file);
     most = omega (arith, length-file, few);
     offset-is = offset-file ∙ ap (λ (n : ℕ). 10 * n) (sym count-file);
-    length-is = length-file ∙ ap (λ (n : ℕ). n + 320) (sym offset-file);
+    length-is = inl (length-file ∙ ap (λ (n : ℕ). n + 320) (sym offset-file));
   })
 
   listed-file : AllFit es → allListed (captureOf config es) (countOf (captureOf config es)) ≡ true

@@ -7,7 +7,8 @@ use native.Mathlib.Omega.{arith}
 use lib.IntN.{pos}
 use lib.ListN.{length, replicate, length-replicate}
 use Rattle.base.specs.InTurn.{inTurn}
-use Rattle.config.specs.Refusal.{refusal, emptyPanel, oversizedPanel, swingRefused, periodRefused}
+use Rattle.clock.specs.Clock.{badRate}
+use Rattle.config.specs.Refusal.{refusal, emptyPanel, oversizedPanel, swingRefused, periodRefused, rateRefused}
 use Rattle.capture.specs.Layout as layout
 use Rattle.capture.specs.Refused.{badConfig, captureRefused}
 use Rattle.capture.specs.Reading.{eventsOf}
@@ -43,7 +44,7 @@ lent = record {
 }
 
 config-taken : refusal (configIn example) ≡ 0
-unfolding configIn refusal emptyPanel oversizedPanel swingRefused periodRefused
+unfolding configIn refusal emptyPanel oversizedPanel swingRefused periodRefused rateRefused badRate
 config-taken = refl
 
 fits : (l r : ℕ) → l ≡ 60000 → r ≡ 5120 → lengthsFit (configIn example) l l 8 8 8 r ≡ true

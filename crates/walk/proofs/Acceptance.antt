@@ -43,6 +43,7 @@ use Rattle.controller.specs.Reading.{flagsOf, bytesOf, byteAt, drivenByte, read
 use Rattle.controller.specs.Refresh.{waveformNow}
 use Rattle.controller.specs.Calls.{called, commandCall, readCall, readAnswer, firstChip, firstBuffers, made}
 use Rattle.controller.specs.Sound.{Sound}
+use Rattle.controller.specs.Counting.{own}
 use Rattle.controller.proofs.Sound.{sound-made, sound-arrived, sound-command, sound-reading, never-turned}
 use Rattle.walk.specs.Machine.{framesAt}
 use Rattle.walk.specs.OnePixel.{bench, slow}
@@ -206,28 +207,28 @@ module _ (g : Uc8253Config) (b : Buffers) (h : Made8279d g b) (t : ℕ) where
   made-sound : Sound (made g b)
   made-sound = sound-made g b (h .gray) (h .accepted)
 
-  command-sound : (c : ℕ) → c < 256 → Sound (commandCall t c (made g b))
+  command-sound : (c : ℕ) → c < 256 → Sound (commandCall own t c (made g b))
   command-sound c l =
-      subst (λ (v : World). Sound v) (sym (takes t (commandByte c) (made g b) made-sound))
+      subst (λ (v : World). Sound v) (sym (takes t (commandByte own c) (made g b) made-sound))
       (sound-command c (arrived t (made g b)) l (sound-arrived t (made g b) made-sound))
 
   abbrev first : World
   first = timed t (world (firstChip g) (firstBuffers g))
 
-  command-is : (c : ℕ) → commandCall t c (made g b) ≡ commandByte c first
+  command-is : (c : ℕ) → commandCall own t c (made g b) ≡ commandByte own c first
   unfolding firstChip
   command-is c =
-      takes t (commandByte c) (made g b) made-sound
-      ∙ ap (λ (v : World). commandByte c (arrived t v)) (made-is g b (h .accepted))
-      ∙ ap (commandByte c) (arrives t (world (firstChip g) (firstBuffers g)) refl)
+      takes t (commandByte own c) (made g b) made-sound
+      ∙ ap (λ (v : World). commandByte own c (arrived t v)) (made-is g b (h .accepted))
+      ∙ ap (commandByte own c) (arrives t (world (firstChip g) (firstBuffers g)) refl)
 
-  under-70 : Under 0x70 0 (commandCall t 0x70 (made g b))
+  under-70 : Under 0x70 0 (commandCall own t 0x70 (made g b))
   unfolding firstChip commandByte closed passed barredNote kindOf begun executed resetOf activeOf writtenOf
   under-70 =
       subst (λ (v : World). Under 0x70 0 v) (sym (command-is 0x70))
       (record { rested = record { chip = h .chip; rests = refl; mode = refl; whole = refl }; current = refl })
 
-  under-71 : Under 0x71 0 (commandCall t 0x71 (made g b))
+  under-71 : Under 0x71 0 (commandCall own t 0x71 (made g b))
   unfolding firstChip commandByte closed passed barredNote kindOf begun executed resetOf activeOf writtenOf
   under-71 =
       subst (λ (v : World). Under 0x71 0 v) (sym (command-is 0x71))
@@ -254,7 +255,7 @@ acceptance = record {
   swing-14 = ends-at-7;
   swing-15-from-0 = refl;
   swing-15-from-15 = refl;
-  elapsed-2 = λ p f n. two-whole (p .now) (p .operation .started) (p .waveform .«frame_ns») f n;
+  elapsed-2 = λ p r f n. two-whole (p .config .timing .rate) (p .now) (p .operation .started) (p .waveform .«frame_ns») r f n;
   states-2 = states-two;
   walk-2 = cut-two;
   frames-2 = λ g m r end h p. rw (cut-two g m r end h);
@@ -271,12 +272,12 @@ acceptance = record {
   empty-met = λ v. empty-reset (made (slow v) bench .chip) (luts-met v);
   made-met = made-met;
   read-71 = λ c b h t t0 t1.
-      answers-listed 0x71 (0x13 ∷ []) bytes-71 (t0 ∷ t1 ∷ []) 0 (commandCall t 0x71 (made c b))
+      answers-listed 0x71 (0x13 ∷ []) bytes-71 (t0 ∷ t1 ∷ []) 0 (commandCall own t 0x71 (made c b))
       (command-sound c b h t 0x71 (lit< tt)) (under-71 c b h t);
   read-70 = λ c b h t t0 t1 t2 t3 t4 t5.
-      answers-listed 0x70 identity bytes-70 (t0 ∷ t1 ∷ t2 ∷ t3 ∷ t4 ∷ t5 ∷ []) 0 (commandCall t 0x70 (made c b))
+      answers-listed 0x70 identity bytes-70 (t0 ∷ t1 ∷ t2 ∷ t3 ∷ t4 ∷ t5 ∷ []) 0 (commandCall own t 0x70 (made c b))
       (command-sound c b h t 0x70 (lit< tt)) (under-70 c b h t);
   then-none = λ c b h t u ts l.
-      last-answer 0x70 identity bytes-70 5 u (lit≤ tt) past-70 ts 0 (commandCall t 0x70 (made c b))
+      last-answer 0x70 identity bytes-70 5 u (lit≤ tt) past-70 ts 0 (commandCall own t 0x70 (made c b))
       (command-sound c b h t 0x70 (lit< tt)) (under-70 c b h t) (omega arith);
 }

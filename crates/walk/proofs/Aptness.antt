@@ -38,6 +38,7 @@ use Rattle.controller.specs.DataByte as byte
 use Rattle.controller.specs.Reading as rd
 use Rattle.controller.specs.Refresh as drv
 use Rattle.controller.specs.Reset as rst
+use Rattle.controller.specs.Counting.{own}
 use Rattle.walk.proofs.Seen.{single, over, apt}
 use Rattle.walk.proofs.Commands.{not-single}
 
@@ -71,12 +72,12 @@ unfolding arrived
 apt-arrived t w q = ap (λ s. apt (s .current)) (stage-ended (timed t w)) ∙ q
 
 -- ---- a command: ignored, or anew with no byte
-refreshed-stage : (n : Note) (w : World) → drv.refreshedBy n w .chip .stage ≡ w .chip .stage
+refreshed-stage : (n : Note) (w : World) → drv.refreshedBy own n w .chip .stage ≡ w .chip .stage
 unfolding tell drv.refreshStarted
 refreshed-stage Quiet w = refl
 refreshed-stage (Told k) w = refl
 
-executed-stage : (c : ℕ) (w : World) → cmd.executed c w .chip .stage ≡ w .chip .stage
+executed-stage : (c : ℕ) (w : World) → cmd.executed own c w .chip .stage ≡ w .chip .stage
 unfolding cmd.executed drv.refreshed
 executed-stage c w =
     let P : World → Type 0 = λ (v : World). v .chip .stage ≡ w .chip .stage in
@@ -92,7 +93,7 @@ begun-apt : (c : ℕ) (k : Kind) (w : World) → (eqb c 0 && single k) ≡ false
 unfolding cmd.begun
 begun-apt c k w e = rw e
 
-sorted-apt : (k : Kind) (c : ℕ) (w : World) → (eqb c 0 && single k) ≡ false → Apt (cmd.sortedBy k c w)
+sorted-apt : (k : Kind) (c : ℕ) (w : World) → (eqb c 0 && single k) ≡ false → Apt (cmd.sortedBy own k c w)
 unfolding tell
 sorted-apt kind.Unknown c w e = refl
 sorted-apt (kind.Unsupported n) c w e = begun-apt c (kind.Unsupported n) (tell (UnsupportedCommand c) w) e
@@ -100,12 +101,12 @@ sorted-apt (kind.Write n) c w e =
     ap (λ s. apt (s .current)) (executed-stage c (onChip (cmd.begun c (kind.Write n)) w)) ∙ begun-apt c (kind.Write n) w e
 sorted-apt kind.Read c w e = ap (λ s. apt (s .current)) (executed-stage c (onChip (cmd.begun c kind.Read) w)) ∙ begun-apt c kind.Read w e
 
-passed-apt : (n : Note) (c : ℕ) (w : World) → Apt (cmd.passedBy n c w)
+passed-apt : (n : Note) (c : ℕ) (w : World) → Apt (cmd.passedBy own n c w)
 unfolding tell
 passed-apt Quiet c w = sorted-apt (kindOf c (w .chip .config .variant)) c w (not-single c (w .chip .config .variant))
 passed-apt (Told k) c w = refl
 
-pub apt-command : (c : ℕ) (w : World) → Apt (cmd.commandByte c w)
+pub apt-command : (c : ℕ) (w : World) → Apt (cmd.commandByte own c w)
 unfolding cmd.commandByte cmd.passed
 apt-command c w =
     passed-apt (cmd.barredNote (cmd.closed w .chip .mode .power) (cmd.closed w .chip .operation .work) c) c (cmd.closed w)
@@ -115,7 +116,7 @@ had-byte : (n : ℕ) (t : Bool) → pick t (not (eqb (min (n + 1) 65535) 0)) tru
 had-byte n true = rw (ne-eqb (min (n + 1) 65535) 0 (λ e. absurd (omega arith)))
 had-byte n false = refl
 
-used-apt : (u : Use) (a : Active) (b : ℕ) (w : World) → Apt (byte.usedBy u a b w)
+used-apt : (u : Use) (a : Active) (b : ℕ) (w : World) → Apt (byte.usedBy own u a b w)
 unfolding tell byte.olderByte byte.newerByte byte.pastWindow byte.pixelChip
 used-apt use-for.Extra a b w = had-byte (a .received) (over a)
 used-apt use-for.Quiet a b w = had-byte (a .received) (over a)
@@ -130,12 +131,12 @@ used-apt use-for.Newer a b w =
     both Apt (ltb (writtenOf (w .chip .regs) .y1) (a .cursor .y))
     (both Apt (a .«past_reported») (had-byte (a .received) (over a)) (had-byte (a .received) (over a))) (had-byte (a .received) (over a))
 
-given-apt : (x : Current) (b : ℕ) (w : World) → Apt w → Apt (byte.givenBy x b w)
+given-apt : (x : Current) (b : ℕ) (w : World) → Apt w → Apt (byte.givenBy own x b w)
 given-apt current.Idle b w q = refl
 given-apt current.Ignoring b w q = q
 given-apt (current.Active a) b w q = used-apt (byte.purposeOf a b) a b w
 
-pub apt-data : (b : ℕ) (w : World) → Apt w → Apt (byte.dataByte b w)
+pub apt-data : (b : ℕ) (w : World) → Apt w → Apt (byte.dataByte own b w)
 unfolding byte.dataByte
 apt-data b w q = given-apt (w .chip .stage .current) b w q
 
@@ -162,18 +163,18 @@ unfolding rd.reading
 apt-reading w q = read-apt (w .chip .stage .current) w q q
 
 -- ---- the reset line
-lowered-apt : (y : Power) (w : World) → Apt w → Apt (rst.loweredBy y w)
+lowered-apt : (y : Power) (w : World) → Apt w → Apt (rst.loweredBy own y w)
 unfolding rst.cleared
 lowered-apt power.Running w q = refl
 lowered-apt power.Asleep w q = refl
 lowered-apt power.InReset w q = q
 
-raised-apt : (y : Power) (w : World) → Apt w → Apt (rst.raisedBy y w)
+raised-apt : (y : Power) (w : World) → Apt w → Apt (rst.raisedBy own y w)
 raised-apt power.Running w q = q
 raised-apt power.Asleep w q = q
 raised-apt power.InReset w q = q
 
-pub apt-edge : (asserted : Bool) (w : World) → Apt w → Apt (rst.resetEdge asserted w)
+pub apt-edge : (asserted : Bool) (w : World) → Apt w → Apt (rst.resetEdge own asserted w)
 unfolding rst.resetEdge
 apt-edge true w q = lowered-apt (w .chip .mode .power) w q
 apt-edge false w q = raised-apt (w .chip .mode .power) w q

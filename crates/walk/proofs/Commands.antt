@@ -28,6 +28,7 @@ use Rattle.controller.specs.World.{World, onChip}
 use Rattle.controller.specs.Tell.{tell, told}
 use Rattle.controller.specs.Command as cmd
 use Rattle.controller.specs.Refresh as drv
+use Rattle.controller.specs.Counting.{own}
 use Rattle.walk.specs.Machine.{busy, restarts, dropped, noted, able, refresh, begin, waveNow, acted, ordered, commanded, begun}
 use Rattle.walk.specs.Kept.{Machine, Hearing, ignored, drives}
 use Rattle.walk.specs.Parts.{withHears}
@@ -38,8 +39,8 @@ use Rattle.walk.proofs.Seen.{single, jobOf, machineOf, view, looks, Pan
 -- ---- a refresh
 -- its start: what it notes
 view-started : (w : World) → Panelled w
-    → view (drv.refreshStarted w)
-    ≡ looks w (begin (drives (noted (w .chip .config) (machineOf w))) (durationOf (waveNow (w .chip .config) (machineOf w))) (machineOf w))
+    → view (drv.refreshStarted own w)
+    ≡ looks w (begin (w .chip .config) (drives (noted (w .chip .config) (machineOf w))) (durationOf (waveNow (w .chip .config) (machineOf w))) (machineOf w))
 unfolding drv.refreshStarted drv.refreshing drv.waveformNow drv.numbersNow noted
 view-started w p =
     rw (rows-tabulated
@@ -53,9 +54,9 @@ view-told k w = refl
 -- what lets it start
 module _ (k1 k2 k3 k4 : DiagnosticKind) (w : World) (p : Panelled w) where
   view-able : (e5 e4 e1 e : Bool)
-      → view (drv.refreshedBy (pick e5 (pick e4 (pick e1 (pick e Quiet (Told k4)) (Told k3)) (Told k2)) (Told k1)) w)
+      → view (drv.refreshedBy own (pick e5 (pick e4 (pick e1 (pick e Quiet (Told k4)) (Told k3)) (Told k2)) (Told k1)) w)
       ≡ looks w (pick (e5 && (e4 && (e1 && e)))
-      (begin (drives (noted (w .chip .config) (machineOf w))) (durationOf (waveNow (w .chip .config) (machineOf w))) (machineOf w))
+      (begin (w .chip .config) (drives (noted (w .chip .config) (machineOf w))) (durationOf (waveNow (w .chip .config) (machineOf w))) (machineOf w))
       (machineOf w))
   view-able true true true true = view-started w p
   view-able true true true false = view-told k4 w
@@ -63,14 +64,14 @@ module _ (k1 k2 k3 k4 : DiagnosticKind) (w : World) (p : Panelled w) where
   view-able true false e1 e = view-told k2 w
   view-able false e4 e1 e = view-told k1 w
 
-view-refreshed : (w : World) → Panelled w → view (drv.refreshed w) ≡ looks w (refresh (w .chip .config) (machineOf w))
+view-refreshed : (w : World) → Panelled w → view (drv.refreshed own w) ≡ looks w (refresh (w .chip .config) (machineOf w))
 unfolding drv.refreshed drv.refreshNote able refresh
 view-refreshed w p =
     view-able _ _ _ _ w p (bitSet (getD (w .chip .regs .psr) 0 0) 5) (bitSet (getD (w .chip .regs .psr) 0 0) 4)
     (bitSet (getD (w .chip .regs .psr) 0 0) 1) (w .chip .mode .powered)
 
 -- ---- what a command does at once
-view-executed : (c : ℕ) (w : World) → Panelled w → view (cmd.executed c w) ≡ looks w (acted (w .chip .config) c (machineOf w))
+view-executed : (c : ℕ) (w : World) → Panelled w → view (cmd.executed own c w) ≡ looks w (acted (w .chip .config) c (machineOf w))
 unfolding cmd.executed acted
 view-executed c w p =
     by-cases (eqb c 0x04)
@@ -91,14 +92,14 @@ unfolding cmd.begun
 begun-seen c k w e = rw e
 
 begun-acts : (c : ℕ) (k : Kind) (w : World) → Panelled w → (eqb c 0 && single k) ≡ false
-    → view (cmd.executed c (onChip (cmd.begun c k) w)) ≡ looks w (acted (w .chip .config) c (begun c k (machineOf w)))
+    → view (cmd.executed own c (onChip (cmd.begun c k) w)) ≡ looks w (acted (w .chip .config) c (begun c k (machineOf w)))
 unfolding cmd.begun
 begun-acts c k w p e =
     view-executed c (onChip (cmd.begun c k) w) (record { wide = p .wide; long = p .long })
     ∙ ap (λ (m : Machine). looks w (acted (w .chip .config) c m)) (begun-seen c k w e)
 
 view-sorted : (k : Kind) (c : ℕ) (w : World) → Panelled w → (eqb c 0 && single k) ≡ false
-    → view (cmd.sortedBy k c w) ≡ looks w (ordered k (w .chip .config) c (machineOf w))
+    → view (cmd.sortedBy own k c w) ≡ looks w (ordered k (w .chip .config) c (machineOf w))
 unfolding tell cmd.begun
 view-sorted kind.Unknown c w p e = refl
 view-sorted (kind.Unsupported n) c w p e = ap (looks w) (begun-seen c (kind.Unsupported n) w e)
@@ -138,7 +139,7 @@ busy-as (work.Refresh r) s e v ns t q = above e t q
 
 module _ (k8 k7 k6 : DiagnosticKind) (c : ℕ) (w : World) (p : Panelled w) where
   view-noted : (a b d e : Bool)
-      → view (cmd.passedBy (pick a (Told k8) (pick b (Told k7) (pick d (pick e Quiet (Told k6)) Quiet))) c w)
+      → view (cmd.passedBy own (pick a (Told k8) (pick b (Told k7) (pick d (pick e Quiet (Told k6)) Quiet))) c w)
       ≡ looks w (pick (a || (b || (d && not e))) (withHears ignored (machineOf w))
       (ordered (kindOf c (w .chip .config .variant)) (w .chip .config) c (machineOf w)))
   view-noted true b d e = view-ignoring k8 w
@@ -147,7 +148,7 @@ module _ (k8 k7 k6 : DiagnosticKind) (c : ℕ) (w : World) (p : Panelled w) wher
   view-noted false false true false = view-ignoring k6 w
   view-noted false false false e = view-sorted (kindOf c (w .chip .config .variant)) c w p (not-single c (w .chip .config .variant))
 
-view-passed : (c : ℕ) (w : World) → Panelled w → Waits w → view (cmd.passed c w) ≡ looks w (commanded (w .chip .config) c (machineOf w))
+view-passed : (c : ℕ) (w : World) → Panelled w → Waits w → view (cmd.passed own c w) ≡ looks w (commanded (w .chip .config) c (machineOf w))
 unfolding cmd.passed cmd.barredNote commanded dropped
 view-passed c w p q =
     view-noted _ _ _ c w p (cmd.inReset (w .chip .mode .power) || cmd.initialises (w .chip .operation .work))
@@ -171,7 +172,7 @@ unfolding commanded dropped
 commanded-deaf g c h m = ap (λ n. pick (dropped c m) (withHears ignored m) n) (ordered-deaf (kindOf c (g .variant)) g c h m)
 
 module _ (c : ℕ) (w : World) (p : Panelled w) (q : Waits w) where
-  view-noticed : (n : Note) → view (cmd.passed c (cmd.ignoring (told n w))) ≡ looks w (commanded (w .chip .config) c (machineOf w))
+  view-noticed : (n : Note) → view (cmd.passed own c (cmd.ignoring (told n w))) ≡ looks w (commanded (w .chip .config) c (machineOf w))
   unfolding tell
   view-noticed Quiet =
       view-passed c (cmd.ignoring w) (record { wide = p .wide; long = p .long }) q
@@ -180,12 +181,12 @@ module _ (c : ℕ) (w : World) (p : Panelled w) (q : Waits w) where
       view-passed c (cmd.ignoring (tell k w)) (record { wide = p .wide; long = p .long }) q
       ∙ ap (looks w) (commanded-deaf (w .chip .config) c ignored (machineOf w))
 
-  view-closed : (x : Current) → view (cmd.passed c (cmd.closedBy x w)) ≡ looks w (commanded (w .chip .config) c (machineOf w))
+  view-closed : (x : Current) → view (cmd.passed own c (cmd.closedBy x w)) ≡ looks w (commanded (w .chip .config) c (machineOf w))
   view-closed current.Idle = view-passed c w p q
   view-closed current.Ignoring = view-passed c w p q
   view-closed (current.Active a) = view-noticed (cmd.closingNote a)
 
 pub view-command : (c : ℕ) (w : World) → Panelled w → Waits w
-    → view (cmd.commandByte c w) ≡ looks w (commanded (w .chip .config) c (machineOf w))
+    → view (cmd.commandByte own c w) ≡ looks w (commanded (w .chip .config) c (machineOf w))
 unfolding cmd.commandByte cmd.closed
 view-command c w p q = view-closed c w p q (w .chip .stage .current)

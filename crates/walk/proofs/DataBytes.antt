@@ -24,6 +24,7 @@ use Rattle.controller.specs.Setters.{withCurrent}
 use Rattle.controller.specs.Tell.{tell}
 use Rattle.controller.specs.DataByte as byte
 use Rattle.controller.specs.Reading as rd
+use Rattle.controller.specs.Counting.{own}
 use Rattle.walk.specs.Machine.{counted, softened, streamed, stored, took, tookBy, heard, given}
 use Rattle.walk.specs.Kept.{Hearing, ignored, under}
 use Rattle.walk.specs.Parts.{withHears}
@@ -50,7 +51,7 @@ module _ (a : Active) (b : ℕ) (w : World) (o : over a ≡ false) where
       (λ l. rw (l, e, o))
 
   -- a byte that the command takes
-  view-doing : view (byte.usedBy (byte.doing (a .command) (a .received) b) a b w)
+  view-doing : view (byte.usedBy own (byte.doing (a .command) (a .received) b) a b w)
       ≡ looks w (took (w .chip .config) b (orderOf a) (machineOf w))
   unfolding byte.doing tell took softened stored
   view-doing =
@@ -68,7 +69,7 @@ module _ (a : Active) (b : ℕ) (w : World) (o : over a ≡ false) where
       (λ n. rw (z, v, t, n, o)))))
 
   view-kind : (k : Kind)
-      → view (byte.usedBy (byte.doneBy k (a .command) (a .received) b) a b w)
+      → view (byte.usedBy own (byte.doneBy k (a .command) (a .received) b) a b w)
       ≡ looks w (tookBy k (w .chip .config) b (orderOf a) (machineOf w))
   view-kind (kind.Write n) = view-doing
   view-kind kind.Read = rw o
@@ -77,7 +78,7 @@ module _ (a : Active) (b : ℕ) (w : World) (o : over a ≡ false) where
 
   -- beyond the largest count
   view-purpose : (t x : Bool)
-      → view (byte.usedBy (pick t (byte.doneBy (a .kind) (a .command) (a .received) b) (pick x use-for.Quiet use-for.Extra)) a b w)
+      → view (byte.usedBy own (pick t (byte.doneBy (a .kind) (a .command) (a .received) b) (pick x use-for.Quiet use-for.Extra)) a b w)
       ≡ looks w (pick t (tookBy (a .kind) (w .chip .config) b (orderOf a) (machineOf w))
       (withHears (under (counted (orderOf a))) (machineOf w)))
   unfolding tell
@@ -108,7 +109,7 @@ module _ (a : Active) (b : ℕ) (w : World) (e : w .chip .stage .current ≡ cur
   ignored-here : machineOf w .hears ≡ ignored
   ignored-here = ap hearingOf e ∙ rw o
 
-  view-silent : (x : Bool) → view (byte.usedBy (pick x use-for.Quiet use-for.Extra) a b w) ≡ view w
+  view-silent : (x : Bool) → view (byte.usedBy own (pick x use-for.Quiet use-for.Extra) a b w) ≡ view w
   unfolding tell
   view-silent true = ap (λ (h : Hearing). looks w (withHears h (machineOf w))) (silent ∙ sym ignored-here)
     where
@@ -120,32 +121,32 @@ module _ (a : Active) (b : ℕ) (w : World) (e : w .chip .stage .current ≡ cur
       silent = rw o
 
   view-over : apt (current.Active a) ≡ true
-      → view (byte.givenBy (current.Active a) b w) ≡ looks w (heard (hearingOf (current.Active a)) (w .chip .config) b (machineOf w))
+      → view (byte.givenBy own (current.Active a) b w) ≡ looks w (heard (hearingOf (current.Active a)) (w .chip .config) b (machineOf w))
   unfolding byte.purposeOf
   view-over q =
       ap (λ (t : Bool). view
-      (byte.usedBy
+      ((byte.usedBy own)
       (pick t (byte.doneBy (a .kind) (a .command) (a .received) b) (pick (a .«extra_reported») use-for.Quiet use-for.Extra)) a b w))
       (takes-one (a .kind) (a .received) (over-single (eqb (a .command) 0) (single (a .kind)) o) (had (over a) (eqb (a .received) 0) o q))
       ∙ view-silent (a .«extra_reported»)
       ∙ ap (λ (t : Bool). looks w (heard (pick t ignored (under (orderOf a))) (w .chip .config) b (machineOf w))) (sym o)
 
 view-live : (a : Active) (b : ℕ) (w : World) → over a ≡ false
-    → view (byte.givenBy (current.Active a) b w) ≡ looks w (heard (hearingOf (current.Active a)) (w .chip .config) b (machineOf w))
+    → view (byte.givenBy own (current.Active a) b w) ≡ looks w (heard (hearingOf (current.Active a)) (w .chip .config) b (machineOf w))
 unfolding byte.purposeOf
 view-live a b w o =
     view-purpose a b w o (takesByte (a .kind) (a .received)) (a .«extra_reported»)
     ∙ ap (λ (t : Bool). looks w (heard (pick t ignored (under (orderOf a))) (w .chip .config) b (machineOf w))) (sym o)
 
 view-given : (x : Current) (b : ℕ) (w : World) → w .chip .stage .current ≡ x → apt x ≡ true
-    → view (byte.givenBy x b w) ≡ looks w (heard (hearingOf x) (w .chip .config) b (machineOf w))
+    → view (byte.givenBy own x b w) ≡ looks w (heard (hearingOf x) (w .chip .config) b (machineOf w))
 unfolding tell
 view-given current.Idle b w e q = refl
 view-given current.Ignoring b w e q = refl
 view-given (current.Active a) b w e q = by-cases (over a) (λ o. view-over a b w e o q) (λ o. view-live a b w o)
 
 pub view-data : (b : ℕ) (w : World) → apt (w .chip .stage .current) ≡ true
-    → view (byte.dataByte b w) ≡ looks w (given (w .chip .config) b (machineOf w))
+    → view (byte.dataByte own b w) ≡ looks w (given (w .chip .config) b (machineOf w))
 unfolding byte.dataByte given
 view-data b w q = view-given (w .chip .stage .current) b w refl q
 

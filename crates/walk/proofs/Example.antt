@@ -1,13 +1,16 @@
--- A list that runs, computed by the checker: a refresh ends by itself, a call is turned back, a refresh is cut after two whole frames.
+-- Lists that run, computed by the checker. At 1 GHz: a refresh ends by itself, a call is turned back, a refresh is cut after two whole
+-- frames. At an odd rate: of two resets a cycle apart the earlier cuts after one frame and the later after two.
 use mathlib.Core.Path.{_≡_, refl, ap, _∙_}
 use mathlib.Core.Bool.{true, false}
 use mathlib.Core.List.{List, [], _∷_, _++_, map}
-use Prim.Native.Nat.{ℕ, _*_, _≤_, _<_}
+use Prim.Native.Nat.{ℕ, _-_, _*_, _≤_, _<_}
 use native.Mathlib.Omega.{arith}
 use lib.Dec.{lit<, lit≤}
 use lib.IntN.{ℤ, pos}
 use lib.ListN.{length, replicate, take}
 use Rattle.base.specs.Integer.{up}
+use Rattle.clock.specs.Clock.{billion, badRate}
+use Rattle.clock.proofs.ClockLaws.{rate-good}
 use Rattle.config.specs.declared.Uc8253Config.{Uc8253Config}
 use Rattle.config.specs.declared.Variant.the-variants as variant
 use Rattle.glass.specs.Walk.{hold, step, walk}
@@ -21,12 +24,36 @@ use Rattle.walk.proofs.Lending.{lending, plain, bytes-lending, Lent}
 use Rattle.walk.proofs.Demand.{demand3, lendable}
 use Rattle.walk.proofs.OnePixel.{all, taken-by, black-by}
 
--- ---- with frames of 10
-unfoldable tiny : Uc8253Config
-tiny = onePixel variant.Uc8253 10
-
 abbrev no : Ask → Fed
 no a = record { ask = a; back = true }
+
+-- ---- a list on the panel of one pixel with frames of 10 ns, whatever its clock: the controller's state walks the machine's frames
+module _ (rate : ℕ) (right : badRate rate ≡ false) (story : List Fed) (fine : plain story ≡ true) where
+  abbrev panel : Uc8253Config
+  panel = onePixel variant.Uc8253 10 rate
+
+  abbrev calls : List Call
+  calls = lending (start panel bench) story
+
+  taken : makingRefused panel bench ≡ 0
+  taken = taken-by variant.Uc8253 10 rate refl right
+
+  lent : Lent panel bench story
+  lent = lendable panel bench story (lit< tt) taken fine
+
+  pub walks : (j : ℕ) → j ≤ length calls → (ds : List ℤ) → framesFed panel (fresh panel) (take j story) 0 ≡ ds
+      → stateAt 0 (place panel bench calls j) ≡ pos (walk 100_000_000 0 ds)
+  unfolding place after framesBetween ran
+  walks j h ds e =
+      let between : framesBetween panel bench calls 0 j 0 ≡ ds
+      = ap (λ (fs : List Fed). framesFed panel (fresh panel) (take (j - 0) fs) 0) (lent .fed)
+      ∙ ap (λ (n : ℕ). framesFed panel (fresh panel) (take n story) 0) {x = j - 0} {y = j} (omega arith) ∙ e in
+      demand3 panel bench calls (lit< tt) taken (bytes-lending (start panel bench) story fine) (lent .own) 0 j (omega arith) h 0 (lit< tt) .moves
+      ∙ (λ i. pos (walk 100_000_000 (up (black-by variant.Uc8253 10 rate refl right i)) (between i)))
+
+-- ---- at 1 GHz
+gigahertz : badRate billion ≡ false
+gigahertz = rate-good billion (lit≤ tt) (lit≤ tt)
 
 -- the calls of the panel of one pixel, whose refresh of 100 ends at 150; the one of 1,000 is cut at 1,025
 unfoldable story : List Fed
@@ -36,74 +63,55 @@ story =
     ∷ feed (command 1000 0x12) ∷ feed taking ∷ feed (reset 1025 true) ∷ feed (reset 1030 false)
     ∷ []
 
--- the whole frames: three, then two
-frames : framesFed tiny (fresh tiny) story 0 ≡ replicate 5 (pos 140_000)
-unfolding all tiny story refreshCalls
-frames = refl
-
--- three by the place where the first has ended, the call turned back counted
-whole : framesFed tiny (fresh tiny) (take 16 story) 0 ≡ replicate 3 (pos 140_000)
-unfolding all tiny story refreshCalls
-whole = refl
-
--- ---- with frames of 1,000: a reset at its end, (3 + 2) × 1,000 after its start at 100, cuts none of the three
-uncut : framesFed (slow variant.Uc8253) driving (feed (reset 5_100 true) ∷ []) 0 ≡ replicate 3 (pos 14_000_000)
-unfolding all slow driving refreshCalls
-uncut = refl
-
--- ---- the same on the controller
-taken : makingRefused tiny bench ≡ 0
-unfolding tiny
-taken = taken-by variant.Uc8253 10 refl
-
-abbrev calls : List Call
-calls = lending (start tiny bench) story
-
-counted : (at : World) → length (lending at story) ≡ 20
-unfolding lending story refreshCalls
-counted at = refl
-
-black : stateAt 0 (start tiny bench) ≡ pos 0
-unfolding tiny
-black = black-by variant.Uc8253 10 refl
-
-gray : tiny .optics .«initial_gray» < 256
-unfolding tiny
-gray = lit< tt
-
-pixel : 0 < tiny .panel .sources * tiny .panel .gates
-unfolding tiny
-pixel = lit< tt
-
 fine : plain story ≡ true
 unfolding story refreshCalls
 fine = refl
 
-lent : Lent tiny bench story
-lent = lendable tiny bench story gray taken fine
+-- three frames of 140,000 by the place where the first has ended, the call turned back counted; and then two
+moves-first : stateAt 0 (place (panel billion gigahertz story fine) bench (calls billion gigahertz story fine) 16) ≡ pos 420_000
+unfolding all step hold lending story refreshCalls
+moves-first = walks billion gigahertz story fine 16 (lit≤ tt) (replicate 3 (pos 140_000)) refl
 
-between : framesBetween tiny bench calls 0 20 0 ≡ replicate 5 (pos 140_000)
-unfolding framesBetween ran all story refreshCalls
-between = ap (λ (fs : List Fed). framesFed tiny (fresh tiny) (take 20 fs) 0) (lent .fed) ∙ frames
+moves : stateAt 0 (place (panel billion gigahertz story fine) bench (calls billion gigahertz story fine) 20) ≡ pos 700_000
+unfolding all step hold lending story refreshCalls
+moves = walks billion gigahertz story fine 20 (lit≤ tt) (replicate 5 (pos 140_000)) refl
 
-between-first : framesBetween tiny bench calls 0 16 0 ≡ replicate 3 (pos 140_000)
-unfolding framesBetween ran all story refreshCalls
-between-first = ap (λ (fs : List Fed). framesFed tiny (fresh tiny) (take 16 fs) 0) (lent .fed) ∙ whole
+-- with frames of 1,000: a reset at its end, (3 + 2) × 1,000 after its start at 100, cuts none of the three
+uncut : framesFed (slow variant.Uc8253) driving (feed (reset 5_100 true) ∷ []) 0 ≡ replicate 3 (pos 14_000_000)
+unfolding all slow driving refreshCalls
+uncut = refl
 
--- from 0 by these frames
-moves-by : (j : ℕ) → j ≤ 20 → (ds : List ℤ) → framesBetween tiny bench calls 0 j 0 ≡ ds
-    → stateAt 0 (place tiny bench calls j) ≡ pos (walk 100_000_000 0 ds)
-unfolding place after tiny
-moves-by j h ds e =
-    let bytes = bytes-lending (start tiny bench) story fine in
-    demand3 tiny bench calls gray taken bytes (lent .own) 0 j (omega arith) (rw (counted (start tiny bench)) h) 0 pixel .moves
-    ∙ (λ i. pos (walk 100_000_000 (up (black i)) (e i)))
+-- ---- at 300,000,007 Hz: five frames of 10 ns are 16 cycles, so the refresh of 100 runs at 115 and is over at 116; of the one of 1,000
+-- six cycles are 19 ns and hold one frame, seven are 23 ns and hold two
+abbrev odd : ℕ
+odd = 300_000_007
 
--- three frames of 140,000, and then two
-moves-first : stateAt 0 (place tiny bench calls 16) ≡ pos 420_000
-unfolding step hold
-moves-first = moves-by 16 (lit≤ tt) (replicate 3 (pos 140_000)) between-first
+rightly : badRate odd ≡ false
+rightly = rate-good odd (lit≤ tt) (lit≤ tt)
 
-moves : stateAt 0 (place tiny bench calls 20) ≡ pos 700_000
-unfolding step hold
-moves = moves-by 20 (lit≤ tt) (replicate 5 (pos 140_000)) between
+unfoldable cutAfter : ℕ → List Fed
+cutAfter n = map feed refreshCalls ++ feed (advance 115) ∷ feed (advance 116) ∷ feed (command 1000 0x12) ∷ feed (reset n true) ∷ []
+
+fair : (n : ℕ) → plain (cutAfter n) ≡ true
+unfolding cutAfter refreshCalls
+fair n = refl
+
+-- what is left of the list after so many of its calls
+abbrev oddState : ℕ → ℕ → ℤ
+oddState n j = stateAt 0 (place (panel odd rightly (cutAfter n) (fair n)) bench (calls odd rightly (cutAfter n) (fair n)) j)
+
+still-running : oddState 1006 14 ≡ pos 0
+unfolding all step hold lending cutAfter refreshCalls
+still-running = walks odd rightly (cutAfter 1006) (fair 1006) 14 (lit≤ tt) [] refl
+
+whole : oddState 1006 15 ≡ pos 420_000
+unfolding all step hold lending cutAfter refreshCalls
+whole = walks odd rightly (cutAfter 1006) (fair 1006) 15 (lit≤ tt) (replicate 3 (pos 140_000)) refl
+
+one-more : oddState 1006 17 ≡ pos 560_000
+unfolding all step hold lending cutAfter refreshCalls
+one-more = walks odd rightly (cutAfter 1006) (fair 1006) 17 (lit≤ tt) (replicate 4 (pos 140_000)) refl
+
+two-more : oddState 1007 17 ≡ pos 700_000
+unfolding all step hold lending cutAfter refreshCalls
+two-more = walks odd rightly (cutAfter 1007) (fair 1007) 17 (lit≤ tt) (replicate 5 (pos 140_000)) refl

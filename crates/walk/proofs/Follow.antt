@@ -18,6 +18,7 @@ use Rattle.controller.specs.Reading as rd
 use Rattle.controller.specs.Refresh.{endedRefresh, copiedAfter, finished}
 use Rattle.controller.specs.Reset.{resetEdge}
 use Rattle.controller.specs.Ask.{Ask, command, datum, reading, advance, reset, taking, askBusy, askDeadline, askBit, askRow}
+use Rattle.controller.specs.Counting.{own}
 use Rattle.walk.specs.Machine.{whole, Out, quiet, done, reached, due, settled, commanded, given, lowered, raised, stepped}
 use Rattle.walk.specs.Kept.{Noted, Task, powersUp, powersDown, fallsAsleep, resetsSoftly}
 use Rattle.walk.specs.Kept.{resetsHardly, drives, Job, idle, until, Machine}
@@ -111,11 +112,11 @@ low-settled t w = low-due w (machineOf w .job) (withClock (max (w .chip .now) t)
 -- ---- every call
 -- what an accepted call makes of a world
 abbrev pub moved : Ask → World → World
-moved (command t c) w = commandByte c (arrived t w)
-moved (datum t b) w = dataByte b (arrived t w)
+moved (command t c) w = commandByte own c (arrived t w)
+moved (datum t b) w = dataByte own b (arrived t w)
 moved (reading t) w = rd.reading (arrived t w)
 moved (advance t) w = arrived t w
-moved (reset t asserted) w = resetEdge asserted (arrived t w)
+moved (reset t asserted) w = resetEdge own asserted (arrived t w)
 moved taking w = onChip (λ p. withLog (logEmptied (p .log)) p) w
 moved (askBusy t) w = w
 moved askDeadline w = w

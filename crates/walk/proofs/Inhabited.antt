@@ -8,6 +8,8 @@ use lib.Dec.{lit<, lit≤}
 use lib.IntN.{pos}
 use Rattle.base.specs.Integer.{up}
 use Rattle.base.specs.Pick.{pick}
+use Rattle.clock.specs.Clock.{billion}
+use Rattle.clock.proofs.ClockLaws.{rate-good}
 use Rattle.config.specs.declared.Uc8253Config.{Uc8253Config}
 use Rattle.config.specs.declared.Variant.{Variant}
 use Rattle.config.specs.declared.Variant.the-variants as variant
@@ -26,6 +28,7 @@ use Rattle.controller.specs.Calls.{resetCall, made, firstChip}
 use Rattle.controller.specs.Sound.{Sound}
 use Rattle.controller.proofs.Sound.{never-turned}
 use Rattle.controller.specs.Ask.{Ask, did, writes}
+use Rattle.controller.specs.Counting.{own}
 use Rattle.walk.specs.Machine.{Fed, fresh, ran, framesFed}
 use Rattle.walk.specs.Kept.{Noted, drives, Job, until, Machine}
 use Rattle.walk.specs.Calls.{next, result, after, Call, start, stateAt}
@@ -107,7 +110,7 @@ record Same (w : World) (r : Noted) : Type 0 where
   wave : w .chip .waveform ≡ r .wave
   numbers : w .lent .numbers ≡ r .numbers
 
-module _ (w : World) (s : Sound w) (r : Noted) (end : ℕ) (h : Drives (machineOf w) r end) (wakes : machineOf w .sleep ≡ false) where
+module _ (w : World) (s : Sound w) (r : Noted) (end : ℕ) (h : Drives (w .chip .config) (machineOf w) r end) (wakes : machineOf w .sleep ≡ false) where
   abbrev jobBy : Work → Job
   jobBy x = jobOf x (w .chip .operation .started) (w .chip .operation .until) (w .chip .waveform) (w .lent .numbers)
 
@@ -126,6 +129,7 @@ module _ (w : World) (s : Sound w) (r : Noted) (end : ℕ) (h : Drives (machineO
       record {
         refresh = x;
         refreshes = record {
+          rate = h .rate;
           runs = e;
           period = ap (λ (v : Waveform). v .«frame_ns») wave ∙ h .period;
           clock = omega (arith, h .clock);
@@ -151,16 +155,16 @@ gray = lit< tt
 
 taken : (v : Variant) → makingRefused (slow v) bench ≡ 0
 unfolding slow
-taken v = taken-by v 1_000 refl
+taken v = taken-by v 1_000 billion refl (rate-good billion (lit≤ tt) (lit≤ tt))
 
 fine : plain (map feed refreshCalls) ≡ true
 unfolding refreshCalls
 fine = refl
 
 -- the machine, run by the checker
-pub drive-met : Drives driving noted3 5_100
+pub drive-met : Drives g driving noted3 5_100
 unfolding all slow driving refreshCalls noted3
-drive-met = record { runs = refl; period = refl; clock = lit≤ tt; later = lit< tt; high = refl }
+drive-met = record { rate = refl; runs = refl; period = refl; clock = lit≤ tt; later = lit< tt; high = refl }
 
 pub three-met : ThreeNoted g noted3 0 lift lift lift
 unfolding all slow noted3
@@ -185,7 +189,7 @@ is-driving = calls-machine g bench gray (taken variant.Uc8253) refreshCalls fine
 
 found : Same refreshing noted3
 found =
-    same refreshing (good .sound) noted3 5_100 (subst (λ (m : Machine). Drives m noted3 5_100) (sym is-driving) drive-met)
+    same refreshing (good .sound) noted3 5_100 (rw (good .config, is-driving) drive-met)
     (ap (λ (m : Machine). m .sleep) is-driving ∙ awake)
 
 three-in : ThreeIn refreshing 0 lift lift lift
@@ -198,19 +202,19 @@ pub state-before : stateAt 0 refreshing ≡ pos 0
 unfolding refreshing slow
 state-before =
     calls-state g bench gray (taken variant.Uc8253) refreshCalls fine 0 (lit< tt)
-    ∙ (λ i. pos (walk 100_000_000 (up (black-by variant.Uc8253 1_000 refl i)) (none-yet i)))
+    ∙ (λ i. pos (walk 100_000_000 (up (black-by variant.Uc8253 1_000 billion refl (rate-good billion (lit≤ tt) (lit≤ tt)) i)) (none-yet i)))
 
 -- two frames from 0
-pub state-after : stateAt 0 (resetCall 3_099 true refreshing) ≡ pos 28_000_000
+pub state-after : stateAt 0 (resetCall own 3_099 true refreshing) ≡ pos 28_000_000
 unfolding step hold slow noted3
 state-after =
-    ap (λ (t : ℕ). stateAt 0 (resetCall (t + 2_999) true refreshing)) (sym (found .since))
+    ap (λ (t : ℕ). stateAt 0 (resetCall own (t + 2_999) true refreshing)) (sym (found .since))
     ∙ state-two refreshing (found .refresh) (found .refreshes) 0 lift lift lift three-in
     ∙ (λ i. pos (walk (good .config i .optics .«full_swing») (up (state-before i)) (lift ∷ lift ∷ [])))
 
 pub made-met : Made8279d (slow variant.Uc8279d) bench
 unfolding slow
-made-met = record { chip = refl; gray = lit< tt; accepted = taken-by variant.Uc8279d 1_000 refl }
+made-met = record { chip = refl; gray = lit< tt; accepted = taken variant.Uc8279d }
 
 pub luts-met : (v : Variant) → made (slow v) bench .chip .luts ≡ resetLuts
 unfolding firstChip

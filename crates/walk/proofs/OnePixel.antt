@@ -6,7 +6,8 @@ use lib.Dec.{eqb}
 use lib.IntN.{pos}
 use lib.ListN.{length, replicate, length-replicate}
 use Rattle.config.specs.declared.Variant.{Variant}
-use Rattle.config.specs.Refusal.{emptyPanel, oversizedPanel, swingRefused, periodRefused, refusal}
+use Rattle.clock.specs.Clock.{near, cyclesOf, nanosOf, badRate}
+use Rattle.config.specs.Refusal.{emptyPanel, oversizedPanel, swingRefused, periodRefused, rateRefused, refusal}
 use Rattle.command.specs.Kinds.{kindOf}
 use Rattle.registers.specs.Area.{inside}
 use Rattle.registers.specs.Bytes as bytes
@@ -32,24 +33,24 @@ unfoldable pub all : ℕ
 unfolding kindOf inside bytes.tenBits bytes.windowSet bytes.heldArea bytes.putAt bytes.byteOf luts.resetLuts luts.keptByte luts.lutByteOf
     resetOf activeOf writtenOf withBit bitAt putBit putInside written nextOf copied levelOfCode floats tables.ends driveOf number.mappingOf
     number.shownAt number.transitionOf number.numberOf m.framesOn m.settled m.dropped m.noted m.able m.refresh m.acted m.commanded m.softened
-    m.streamed m.stored m.took m.given m.cleared m.lowered m.raised m.stepped m.framesAt m.fresh m.fed1 m.framesFed1 m.ran m.framesFed
+    cyclesOf nanosOf near m.streamed m.stored m.took m.given m.cleared m.lowered m.raised m.stepped m.framesAt m.fresh m.fed1 m.framesFed1 m.ran m.framesFed
 all = 0
 
-module _ (v : Variant) (period : ℕ) (some : eqb period 0 ≡ false) where
-  unrefused : refusal (onePixel v period) ≡ 0
-  unfolding refusal emptyPanel oversizedPanel swingRefused periodRefused
-  unrefused = rw some
+module _ (v : Variant) (period rate : ℕ) (some : eqb period 0 ≡ false) (right : badRate rate ≡ false) where
+  unrefused : refusal (onePixel v period rate) ≡ 0
+  unfolding refusal emptyPanel oversizedPanel swingRefused periodRefused rateRefused
+  unrefused = rw (some, right)
 
-  fits : (l r : ℕ) → l ≡ 60000 → r ≡ 5120 → lengthsFit (onePixel v period) l l 1 1 1 r ≡ true
+  fits : (l r : ℕ) → l ≡ 60000 → r ≡ 5120 → lengthsFit (onePixel v period rate) l l 1 1 1 r ≡ true
   unfolding lengthsFit
   fits l r e d = rw (e, d)
 
-  pub taken-by : makingRefused (onePixel v period) bench ≡ 0
+  pub taken-by : makingRefused (onePixel v period rate) bench ≡ 0
   unfolding makingRefused bench
   taken-by =
       let long = length-replicate {A = ℕ} 60000 0 in
       rw (unrefused, fits (length (replicate {A = ℕ} 60000 0)) (length (replicate {A = ℕ} 5120 0)) long (length-replicate {A = ℕ} 5120 0))
 
-  pub black-by : stateAt 0 (made (onePixel v period) bench) ≡ pos 0
+  pub black-by : stateAt 0 (made (onePixel v period rate) bench) ≡ pos 0
   unfolding stateAt firstBuffers
-  black-by = rw (made-is (onePixel v period) bench taken-by)
+  black-by = rw (made-is (onePixel v period rate) bench taken-by)

@@ -103,7 +103,7 @@ module _ (n : ℕ) (g : Uc8253Config) where
   unfolding settled
   settled-job t m s = due-job (m .job) (withClock (max (m .clock) t) m) s
 
-  cut-task : (k : Task) (t : ℕ) (e : Ended) → ServesTask n k → ServesEnd n e → ServesEnd n (cutTask k t e)
+  cut-task : (k : Task) (t : ℕ) (e : Ended) → ServesTask n k → ServesEnd n e → ServesEnd n (cutTask g k t e)
   cut-task powersUp t e s q = q
   cut-task powersDown t e s q = q
   cut-task fallsAsleep t e s q = q
@@ -111,7 +111,7 @@ module _ (n : ℕ) (g : Uc8253Config) where
   cut-task resetsHardly t e s q = q
   cut-task (drives r) t e s q = s
 
-  cut-job : (j : Job) (t : ℕ) (e : Ended) → ServesJob n j → ServesEnd n e → ServesEnd n (cutJob j t e)
+  cut-job : (j : Job) (t : ℕ) (e : Ended) → ServesJob n j → ServesEnd n e → ServesEnd n (cutJob g j t e)
   cut-job idle t e s q = q
   cut-job (until x k) t e s q = cut-task k t e s q
 

@@ -10,6 +10,8 @@ use lib.ListN.{length, getD, take}
 use borrow.Author.Tests.{ne-eqb, lt-leb}
 use Rattle.base.specs.Pick.{pick}
 use Rattle.base.specs.Integer.{up}
+use Rattle.clock.specs.Clock.{billion, nanosOf}
+use Rattle.clock.proofs.ClockLaws.{nanos-same}
 use Rattle.config.specs.declared.Uc8253Config.{Uc8253Config}
 use Rattle.glass.specs.Walk.{walk}
 use Rattle.pixels.specs.States.{everyState, everyNumber}
@@ -31,6 +33,7 @@ use Rattle.controller.specs.TurnedBack.{turnedBack, foreignRecord, foreignConte
 use Rattle.controller.specs.Calls.{called, resetCall}
 use Rattle.controller.proofs.Parts.{lengths}
 use Rattle.controller.specs.Ask.{reset}
+use Rattle.controller.specs.Counting.{own}
 use Rattle.walk.specs.Machine.{cut, framesOn, framesBy, settled, lowered, stepped, framesAt, framesFed1, framesFed}
 use Rattle.walk.specs.Kept.{Noted, Machine}
 use Rattle.walk.specs.Calls.{stateAt}
@@ -39,8 +42,8 @@ use Rattle.walk.specs.Table.{Refreshes, Drives, ThreeFrames, ThreeIn, Th
 use Rattle.walk.proofs.Pixel.{states-at}
 
 -- 2,999 of frames of 1,000
-pub two-whole : (now start period : ℕ) → period ≡ 1_000 → now ≡ start + 2_999 → (now - start) / period ≡ 2
-two-whole now start period p n = rw (p, n) (omega arith)
+pub two-whole : (rate now start period : ℕ) → rate ≡ billion → period ≡ 1_000 → now ≡ start + 2_999 → nanosOf rate (now - start) / period ≡ 2
+two-whole rate now start period r p n = rw (r, nanos-same (now - start) (omega (arith, n)), p, n) (omega arith)
 
 -- closing the command leaves the states
 told-states : (n : Note) (w : World) → told n w .lent .states ≡ w .lent .states
@@ -73,29 +76,29 @@ module _ (w : World) (r : Refresh) (h : Refreshes w r) where
   abbrev walkedBy : ℕ → List ℤ
   walkedBy i = walked (w .chip .config .optics .«full_swing») (λ k. take i (allFrames (w .chip) k)) (w .lent .numbers) (w .lent .states)
 
-  cut-states : rst.cutBy (work.Refresh r) (timed late w) .lent .states ≡ walkedBy 2
+  cut-states : rst.cutBy own (work.Refresh r) (timed late w) .lent .states ≡ walkedBy 2
   unfolding cutRefresh finished tell
   cut-states =
       let t : max (w .chip .now) late ≡ late = omega (arith, h .clock) in
-      ap walkedBy (two-whole (max (w .chip .now) late) (w .chip .operation .started) (w .chip .waveform .«frame_ns») (h .period) t)
+      ap walkedBy (two-whole (w .chip .config .timing .rate) (max (w .chip .now) late) (w .chip .operation .started) (w .chip .waveform .«frame_ns») (h .rate) (h .period) t)
 
-  pub states-two : resetCall late true w .lent .states ≡ walkedBy 2
+  pub states-two : resetCall own late true w .lent .states ≡ walkedBy 2
   unfolding called rst.resetEdge rst.cut
   states-two =
       rw (h .accepted)
-      (ap (λ (v : World). rst.edge true v .lent .states) runs-on
-      ∙ ap (λ (y : Power). rst.loweredBy y (timed late w) .lent .states) (h .awake)
-      ∙ closed-states (rst.cut (timed late w))
-      ∙ ap (λ (x : Work). rst.cutBy x (timed late w) .lent .states) (h .runs)
+      (ap (λ (v : World). rst.edge own true v .lent .states) runs-on
+      ∙ ap (λ (y : Power). rst.loweredBy own y (timed late w) .lent .states) (h .awake)
+      ∙ closed-states (rst.cut own (timed late w))
+      ∙ ap (λ (x : Work). rst.cutBy own x (timed late w) .lent .states) (h .runs)
       ∙ cut-states)
 
-pub cut-two : (g : Uc8253Config) (m : Machine) (r : Noted) (end : ℕ) → Drives m r end
+pub cut-two : (g : Uc8253Config) (m : Machine) (r : Noted) (end : ℕ) → Drives g m r end
     → stepped g m (reset (r .since + 2_999) true) .ended ≡ cut 2 r
 unfolding stepped settled lowered
 cut-two g m r end h =
     let t : max (m .clock) (r .since + 2_999) ≡ r .since + 2_999 = omega (arith, h .clock) in
     let l : leb end (r .since + 2_999) ≡ false = lt-leb _ _ (h .later) in
-    rw (h .runs, t, l, h .high) (ap (λ (i : ℕ). cut i r) (two-whole (r .since + 2_999) (r .since) (r .wave .«frame_ns») (h .period) refl))
+    rw (h .runs, t, l, h .high) (ap (λ (i : ℕ). cut i r) (two-whole (g .timing .rate) (r .since + 2_999) (r .since) (r .wave .«frame_ns») (h .rate) (h .period) refl))
 
 -- ---- of three frames
 first-two : (r : Noted) (black : Bool) (p : ℕ) (x y z : ℤ) → ThreeFrames (r .wave) black (r .numbers) p x y z
@@ -103,7 +106,7 @@ first-two : (r : Noted) (black : Bool) (p : ℕ) (x y z : ℤ) → ThreeFrames (
 unfolding framesOn
 first-two r black p x y z t = rw (ne-eqb (getD (r .numbers) p 255) 255 (omega arith), t .frames)
 
-pub frames-two : (g : Uc8253Config) (m : Machine) (r : Noted) (end : ℕ) → Drives m r end → (p : ℕ) (x y z : ℤ) → ThreeNoted g r p x y z
+pub frames-two : (g : Uc8253Config) (m : Machine) (r : Noted) (end : ℕ) → Drives g m r end → (p : ℕ) (x y z : ℤ) → ThreeNoted g r p x y z
     → framesFed g m (feed (reset (r .since + 2_999) true) ∷ []) p ≡ x ∷ y ∷ []
 unfolding framesFed framesFed1 framesAt
 frames-two g m r end h p x y z t = rw (cut-two g m r end h, first-two r (g .optics .«positive_drives_black») p x y z t)
@@ -142,7 +145,7 @@ module _ (w : World) (r : Refresh) (h : Refreshes w r) where
   notes = record { since = w .chip .operation .started; wave = w .chip .waveform; area = r .area; numbers = w .lent .numbers }
 
   pub state-two : (p : ℕ) (x y z : ℤ) → ThreeIn w p x y z
-      → stateAt p (resetCall (w .chip .operation .started + 2_999) true w)
+      → stateAt p (resetCall own (w .chip .operation .started + 2_999) true w)
       ≡ pos (walk (w .chip .config .optics .«full_swing») (up (stateAt p w)) (x ∷ y ∷ []))
   unfolding stateAt
   state-two p x y z t =

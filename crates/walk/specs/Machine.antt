@@ -8,6 +8,7 @@ use lib.IntN.{ℤ}
 use lib.ListN.{getD, take, replicate}
 use Rattle.base.specs.Pick.{pick, oneOf}
 use Rattle.base.specs.Word.{top}
+use Rattle.clock.specs.Clock.{cyclesOf, nanosOf}
 use Rattle.config.specs.declared.Uc8253Config.{Uc8253Config}
 use Rattle.command.specs.declared.kinds.Kind.{Kind}
 use Rattle.command.specs.declared.kinds.Kind.the-variants as kind
@@ -59,9 +60,9 @@ abbrev pub then : (Machine → Machine) → Out → Out
 then f o = record { machine = f (o .machine); ended = o .ended }
 
 -- ---- a call arrives
--- an operation from the clock on: its end is start plus duration, held at 2^64 - 1
-abbrev pub begin : Task → ℕ → Machine → Machine
-begin k ns m = withJob (until (min (m .clock + ns) top) k) m
+-- an operation from the clock on: its end is start plus duration, rounded up to cycles and held at 2^64 - 1
+abbrev pub begin : Uc8253Config → Task → ℕ → Machine → Machine
+begin g k ns m = withJob (until (min (m .clock + cyclesOf (g .timing .rate) ns) top) k) m
 
 -- its end: power is up, or down; asleep, and power down; on UC8253 with bit 3 of the first 50 byte a refresh copies new to old in its area
 abbrev pub done : Uc8253Config → Task → Machine → Out
@@ -137,7 +138,7 @@ unfoldable pub able : Machine → Bool
 able m = let psr = getD (m .regs .psr) 0 0 in bitSet psr 5 && (bitSet psr 4 && (bitSet psr 1 && m .power))
 
 unfoldable pub refresh : Uc8253Config → Machine → Machine
-refresh g m = pick (able m) (begin (drives (noted g m)) (durationOf (waveNow g m)) m) m
+refresh g m = pick (able m) (begin g (drives (noted g m)) (durationOf (waveNow g m)) m) m
 
 -- 91 and 92
 abbrev pub windowed : Bool → Machine → Machine
@@ -157,8 +158,8 @@ windowed x m =
 -- 04 acts with power off, 02 with power on; 12 is a refresh
 unfoldable pub acted : Uc8253Config → ℕ → Machine → Machine
 acted g c m =
-    pick (eqb c 0x04) (pick (m .power) m (begin powersUp (g .timing .«power_on») m))
-    (pick (eqb c 0x02) (pick (m .power) (begin powersDown (g .timing .«power_off») m) m)
+    pick (eqb c 0x04) (pick (m .power) m (begin g powersUp (g .timing .«power_on») m))
+    (pick (eqb c 0x02) (pick (m .power) (begin g powersDown (g .timing .«power_off») m) m)
     (pick (eqb c 0x12) (refresh g m)
     (pick (eqb c 0x91) (windowed true m)
     (pick (eqb c 0x92) (windowed false m)
@@ -196,7 +197,7 @@ forward a o = record { byte = o .byte; kind = o .kind; count = min (o .count + 1
 unfoldable pub softened : Uc8253Config → Machine → Machine
 softened g m =
     withHears ignored
-    (begin resetsSoftly (g .timing .«soft_reset») (withPower false (withLuts resetLuts (withRegs (resetOf (g .variant)) m))))
+    (begin g resetsSoftly (g .timing .«soft_reset») (withPower false (withLuts resetLuts (withRegs (resetOf (g .variant)) m))))
 
 -- 10 puts eight bits from the cursor into the old plane, 13 into the new one, and the cursor goes on; past the last row nothing
 unfoldable pub streamed : ℕ → Order → Machine → Machine
@@ -217,7 +218,7 @@ stored b o m =
 unfoldable pub took : Uc8253Config → ℕ → Order → Machine → Machine
 took g b o m =
     pick (eqb (o .byte) 0x00 && (eqb (o .count) 0 && not (bitSet b 0))) (softened g m)
-    (pick (eqb (o .byte) 0x07) (withHears (under (counted o)) (pick (eqb b 0xA5) (begin fallsAsleep (g .timing .«deep_sleep») m) m))
+    (pick (eqb (o .byte) 0x07) (withHears (under (counted o)) (pick (eqb b 0xA5) (begin g fallsAsleep (g .timing .«deep_sleep») m) m))
     (pick (oneOf (0x10 ∷ 0x13 ∷ []) (o .byte)) (streamed b o m)
     (stored b o m)))
 
@@ -238,18 +239,18 @@ unfoldable pub given : Uc8253Config → ℕ → Machine → Machine
 given g b m = heard (m .hears) g b m
 
 -- ---- the reset line
--- a refresh is cut after the whole frames elapsed: (clock - start) / period, rounded down
-abbrev pub cutTask : Task → ℕ → Ended → Ended
-cutTask powersUp t e = e
-cutTask powersDown t e = e
-cutTask fallsAsleep t e = e
-cutTask resetsSoftly t e = e
-cutTask resetsHardly t e = e
-cutTask (drives r) t e = cut ((t - r .since) / r .wave .«frame_ns») r
+-- a refresh is cut after the whole frames elapsed: clock - start, in nanoseconds, / period, rounded down
+abbrev pub cutTask : Uc8253Config → Task → ℕ → Ended → Ended
+cutTask g powersUp t e = e
+cutTask g powersDown t e = e
+cutTask g fallsAsleep t e = e
+cutTask g resetsSoftly t e = e
+cutTask g resetsHardly t e = e
+cutTask g (drives r) t e = cut (nanosOf (g .timing .rate) (t - r .since) / r .wave .«frame_ns») r
 
-abbrev pub cutJob : Job → ℕ → Ended → Ended
-cutJob idle t e = e
-cutJob (until n k) t e = cutTask k t e
+abbrev pub cutJob : Uc8253Config → Job → ℕ → Ended → Ended
+cutJob g idle t e = e
+cutJob g (until n k) t e = cutTask g k t e
 
 -- the operation is dropped, the command closed, the registers restored, power cut, the chip awake; the planes stay
 unfoldable pub cleared : Uc8253Config → Machine → Machine
@@ -270,11 +271,11 @@ cleared g m = record {
 unfoldable pub lowered : Uc8253Config → Out → Out
 lowered g o =
     let m = o .machine in
-    pick (m .low) o (record { machine = cleared g m; ended = cutJob (m .job) (m .clock) (o .ended) })
+    pick (m .low) o (record { machine = cleared g m; ended = cutJob g (m .job) (m .clock) (o .ended) })
 
 -- release starts the hardware reset; out of reset it is an advance
 unfoldable pub raised : Uc8253Config → Machine → Machine
-raised g m = pick (m .low) (begin resetsHardly (g .timing .«hardware_reset») (withLow false m)) m
+raised g m = pick (m .low) (begin g resetsHardly (g .timing .«hardware_reset») (withLow false m)) m
 
 -- ---- each call
 unfoldable pub stepped : Uc8253Config → Machine → Ask → Out

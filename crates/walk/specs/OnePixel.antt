@@ -4,6 +4,7 @@ use mathlib.Core.List.{List, [], _∷_, map}
 use Prim.Native.Nat.{ℕ}
 use lib.IntN.{pos}
 use lib.ListN.{replicate}
+use Rattle.clock.specs.Clock.{billion}
 use Rattle.config.specs.declared.Uc8253Config.{Uc8253Config}
 use Rattle.config.specs.declared.Variant.{Variant}
 use Rattle.config.specs.declared.Variant.the-variants as variant
@@ -14,9 +15,9 @@ use Rattle.controller.specs.Ask.{Ask, command, datum, did}
 use Rattle.walk.specs.Machine.{Fed, fresh, ran}
 use Rattle.walk.specs.Kept.{Noted, Machine}
 
--- black at first; every period the same; power is on 100 after 04
-abbrev pub onePixel : Variant → ℕ → Uc8253Config
-onePixel v period = record {
+-- black at first; every period the same, in nanoseconds; power is on 100 of them after 04; a clock of so many Hz
+abbrev pub onePixel : Variant → ℕ → ℕ → Uc8253Config
+onePixel v period rate = record {
   variant = v;
   panel = record { sources = 1; gates = 1; «rows_reversed» = false; «columns_reversed» = false };
   optics = record { «full_swing» = 100_000_000; «positive_drives_black» = true; «initial_gray» = 0 };
@@ -27,6 +28,7 @@ onePixel v period = record {
     «soft_reset» = 0;
     «hardware_reset» = 5;
     «frame_period» = replicate 32 period;
+    rate = rate;
   };
   «ambient_celsius» = 25;
 }
@@ -60,9 +62,9 @@ afterCalls (a ∷ rest) w = afterCalls rest (did a w)
 abbrev pub feed : Ask → Fed
 feed a = record { ask = a; back = false }
 
--- the panel with frames of 1,000; the controller after the calls; and the walk's machine after them
+-- the panel with frames of 1,000 at 1 GHz; the controller after the calls; and the walk's machine after them
 unfoldable pub slow : Variant → Uc8253Config
-slow v = onePixel v 1_000
+slow v = onePixel v 1_000 billion
 
 unfoldable pub refreshing : World
 refreshing = afterCalls refreshCalls (made (slow variant.Uc8253) bench)

@@ -7,6 +7,7 @@ use lib.IntN.{ℤ, pos, negℤ}
 use lib.ListN.{length, getD, take}
 use Rattle.base.specs.Integer.{up}
 use Rattle.base.specs.Word.{top}
+use Rattle.clock.specs.Clock.{billion}
 use Rattle.config.specs.declared.Uc8253Config.{Uc8253Config}
 use Rattle.config.specs.declared.Variant.{Variant}
 use Rattle.config.specs.declared.Variant.the-variants as variant
@@ -34,6 +35,7 @@ use Rattle.controller.specs.Refresh.{waveformNow, walked, allFrames, elapsed}
 use Rattle.controller.specs.TurnedBack.{turnedBack, makingRefused}
 use Rattle.controller.specs.Calls.{commandCall, readCall, readAnswer, resetCall, made}
 use Rattle.controller.specs.Ask.{reset}
+use Rattle.controller.specs.Counting.{own}
 use Rattle.walk.specs.Machine.{cut, framesOn, stepped, framesAt, framesFed}
 use Rattle.walk.specs.Kept.{Noted, drives, until, Machine}
 use Rattle.walk.specs.Calls.{stateAt}
@@ -50,9 +52,10 @@ Columns a first last = (a .x0 ≡ first) × (a .x1 ≡ last)
 abbrev pub drivesOfSeven : List ℤ
 drivesOfSeven = pos 7 ∷ pos 7 ∷ negℤ (pos 7) ∷ []
 
--- a refresh with frames of 1,000 runs in the record, which is not past 2,999 from its start and ends later;
+-- at 1 GHz a refresh with frames of 1,000 runs in the record, which is not past 2,999 from its start and ends later;
 -- the call that asserts reset then is accepted
 pub record Refreshes (w : World) (r : Refresh) : Type 0 where
+  pub rate : w .chip .config .timing .rate ≡ billion
   pub runs : w .chip .operation .work ≡ work.Refresh r
   pub period : w .chip .waveform .«frame_ns» ≡ 1_000
   pub clock : w .chip .now ≤ w .chip .operation .started + 2_999
@@ -61,7 +64,8 @@ pub record Refreshes (w : World) (r : Refresh) : Type 0 where
   pub accepted : turnedBack true (w .chip .operation .started + 2_999) w ≡ 0
 
 -- the same in the walk
-pub record Drives (m : Machine) (r : Noted) (end : ℕ) : Type 0 where
+pub record Drives (g : Uc8253Config) (m : Machine) (r : Noted) (end : ℕ) : Type 0 where
+  pub rate : g .timing .rate ≡ billion
   pub runs : m .job ≡ until end (drives r)
   pub period : r .wave .«frame_ns» ≡ 1_000
   pub clock : m .clock ≤ r .since + 2_999
@@ -145,26 +149,26 @@ pub record Table : Type 0 where
   pub swing-15-from-15 : walk 15 15 drivesOfSeven ≡ 8
   -- ---- "3 frames of 1,000, reset after 2,999: 2 driven."
   -- the frames elapsed; the states after the call that asserts reset; and the frames that the walk gives a pixel
-  pub elapsed-2 : (p : Uc8253) → p .waveform .«frame_ns» ≡ 1_000 → p .now ≡ p .operation .started + 2_999 → elapsed p ≡ 2
+  pub elapsed-2 : (p : Uc8253) → p .config .timing .rate ≡ billion → p .waveform .«frame_ns» ≡ 1_000 → p .now ≡ p .operation .started + 2_999 → elapsed own p ≡ 2
   pub states-2 : (w : World) (r : Refresh) → Refreshes w r
-      → resetCall (w .chip .operation .started + 2_999) true w .lent .states
+      → resetCall own (w .chip .operation .started + 2_999) true w .lent .states
       ≡ walked (w .chip .config .optics .«full_swing») (λ k. take 2 (allFrames (w .chip) k)) (w .lent .numbers) (w .lent .states)
-  pub walk-2 : (g : Uc8253Config) (m : Machine) (r : Noted) (end : ℕ) → Drives m r end
+  pub walk-2 : (g : Uc8253Config) (m : Machine) (r : Noted) (end : ℕ) → Drives g m r end
       → stepped g m (reset (r .since + 2_999) true) .ended ≡ cut 2 r
-  pub frames-2 : (g : Uc8253Config) (m : Machine) (r : Noted) (end : ℕ) → Drives m r end → (p : ℕ)
+  pub frames-2 : (g : Uc8253Config) (m : Machine) (r : Noted) (end : ℕ) → Drives g m r end → (p : ℕ)
       → framesAt g m (reset (r .since + 2_999) true) p ≡ take 2 (framesOn (g .optics .«positive_drives_black») r (getD (r .numbers) p 255))
   -- of a pixel whose table has 3 frames: its state walks the first 2 and no other; and the walk gives it these, as demand 3 takes them
   pub state-of-3 : (w : World) (r : Refresh) → Refreshes w r → (p : ℕ) (x y z : ℤ) → ThreeIn w p x y z
-      → stateAt p (resetCall (w .chip .operation .started + 2_999) true w)
+      → stateAt p (resetCall own (w .chip .operation .started + 2_999) true w)
       ≡ pos (walk (w .chip .config .optics .«full_swing») (up (stateAt p w)) (x ∷ y ∷ []))
-  pub frames-of-3 : (g : Uc8253Config) (m : Machine) (r : Noted) (end : ℕ) → Drives m r end → (p : ℕ) (x y z : ℤ) → ThreeNoted g r p x y z
+  pub frames-of-3 : (g : Uc8253Config) (m : Machine) (r : Noted) (end : ℕ) → Drives g m r end → (p : ℕ) (x y z : ℤ) → ThreeNoted g r p x y z
       → framesFed g m (feed (reset (r .since + 2_999) true) ∷ []) p ≡ x ∷ y ∷ []
   -- such refreshes there are: on the panel of one pixel, whose state goes from 0 to that of 2 frames
   pub refresh-met : RefreshMet
-  pub drive-met : Drives driving noted3 5_100
+  pub drive-met : Drives (slow variant.Uc8253) driving noted3 5_100
   pub three-met : ThreeNoted (slow variant.Uc8253) noted3 0 lift lift lift
   pub state-before : stateAt 0 refreshing ≡ pos 0
-  pub state-after : stateAt 0 (resetCall 3_099 true refreshing) ≡ pos 28_000_000
+  pub state-after : stateAt 0 (resetCall own 3_099 true refreshing) ≡ pos 28_000_000
   -- ---- "All tables empty: 2 frames long, none driven."
   -- whatever the levels and the sign; as the tables that a reset leaves are
   pub empty-long : (w : Waveform) → AllEmpty w → 2 * w .«frame_ns» ≤ top → durationOf w ≡ 2 * w .«frame_ns»
@@ -175,9 +179,9 @@ pub record Table : Type 0 where
   -- by the calls, whatever their times; and such a making there is
   pub made-met : Made8279d (slow variant.Uc8279d) bench
   pub read-71 : (c : Uc8253Config) (b : Buffers) → Made8279d c b → (t t0 t1 : ℕ)
-      → answers (t0 ∷ t1 ∷ []) (commandCall t 0x71 (made c b)) ≡ Byte 0x13 ∷ Nothing ∷ []
+      → answers (t0 ∷ t1 ∷ []) (commandCall own t 0x71 (made c b)) ≡ Byte 0x13 ∷ Nothing ∷ []
   pub read-70 : (c : Uc8253Config) (b : Buffers) → Made8279d c b → (t t0 t1 t2 t3 t4 t5 : ℕ)
-      → answers (t0 ∷ t1 ∷ t2 ∷ t3 ∷ t4 ∷ t5 ∷ []) (commandCall t 0x70 (made c b))
+      → answers (t0 ∷ t1 ∷ t2 ∷ t3 ∷ t4 ∷ t5 ∷ []) (commandCall own t 0x70 (made c b))
       ≡ Byte 0x00 ∷ Byte 0x03 ∷ Byte 0x66 ∷ Byte 0xFF ∷ Byte 0xFF ∷ Nothing ∷ []
   pub then-none : (c : Uc8253Config) (b : Buffers) → Made8279d c b → (t u : ℕ) (ts : List ℕ) → 5 ≤ length ts
-      → readAnswer u (afterReads ts (commandCall t 0x70 (made c b))) ≡ Nothing
+      → readAnswer u (afterReads ts (commandCall own t 0x70 (made c b))) ≡ Nothing

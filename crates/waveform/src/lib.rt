@@ -358,15 +358,15 @@ fn drive_table(
     q.run
 }
 
-// The whole frames that some time holds: (clock - start) / period, rounded down. A start that lies
-// above the clock has run no time, and a period of 0, which no panel has, holds no frame.
-pub fn whole_frames(clock: u64, start: u64, period: u64) -> u64
-    ensures { λ r. ⌜ r ≡ (clock - start) / period ⌝ }
+// The whole frames that some nanoseconds hold, rounded down. A period of 0, which no panel has, holds
+// no frame.
+pub fn whole_frames(ns: u64, period: u64) -> u64
+    ensures { λ r. ⌜ r ≡ ns / period ⌝ }
 {
     if period == 0 {
         return 0;
     }
-    saturating_sub(clock, start) / period
+    ns / period
 }
 
 // The proofs of `of` and `tables` are walks by hand, by the laws of the crate `nested`; the rest goes

@@ -2,8 +2,10 @@
 
 use crate::refused::Refused;
 
-/// The bytes of a configuration in a capture.
+/// The bytes of a configuration in a capture, but for its rate.
 pub(crate) const BYTES: usize = 312;
+/// The rate where none stands behind them, in Hz.
+pub(crate) const GIGAHERTZ: u64 = 1_000_000_000;
 /// The codes of 30 (PLL), each of which has a frame period.
 pub const FRAME_PERIODS: usize = 32;
 
@@ -55,6 +57,9 @@ pub struct Configuration {
     pub hardware_reset: u64,
     /// The frame period of each code of 30 (PLL); none of them 0.
     pub frame_periods: [u64; FRAME_PERIODS],
+    /// The rate of the board's clock in Hz, 1 to 1,000,000,000: times of calls and events, of pictures
+    /// and diagnostics are its cycles.
+    pub rate: u64,
 }
 
 impl Configuration {
@@ -78,6 +83,7 @@ impl Configuration {
             soft_reset: 50_000,
             hardware_reset: 1_000_000,
             frame_periods: std::array::from_fn(|code| 1_000_000_000 / hertz(code as u64)),
+            rate: GIGAHERTZ,
         }
     }
 
@@ -94,7 +100,7 @@ impl Configuration {
             | flag(self.positive_drives_black, POSITIVE_DRIVES_BLACK)
     }
 
-    /// As a capture has it.
+    /// As a capture has it; 1 GHz goes without saying.
     pub(crate) fn encode(&self, file: &mut Vec<u8>) {
         let variant = match self.variant {
             Variant::Uc8253 => 0,
@@ -115,10 +121,13 @@ impl Configuration {
         for number in times.into_iter().chain(self.frame_periods) {
             file.extend(number.to_le_bytes());
         }
+        if self.rate != GIGAHERTZ {
+            file.extend(self.rate.to_le_bytes());
+        }
     }
 
-    /// From a capture's bytes; refused by 9 where its variant or a flag is not listed.
-    pub(crate) fn decode(bytes: &[u8; BYTES]) -> Result<Configuration, Refused> {
+    /// From a capture's bytes and rate; refused by 9 where its variant or a flag is not listed.
+    pub(crate) fn decode(bytes: &[u8; BYTES], rate: u64) -> Result<Configuration, Refused> {
         let half = |at: usize| u16::from_le_bytes([bytes[at], bytes[at + 1]]);
         let number = |at: usize| u64::from_le_bytes(std::array::from_fn(|byte| bytes[at + byte]));
         let flags = bytes[1];
@@ -146,6 +155,7 @@ impl Configuration {
             soft_reset: number(40),
             hardware_reset: number(48),
             frame_periods: std::array::from_fn(|code| number(56 + 8 * code)),
+            rate,
         })
     }
 }

@@ -33,7 +33,7 @@ pub enum What {
     Advance,
 }
 
-/// Something that happens at a time, in nanoseconds.
+/// Something that happens at a time, in cycles of the configuration's clock: nanoseconds at 1 GHz.
 #[derive(Clone, Copy, Debug, PartialEq, Eq, Hash)]
 pub struct Event {
     /// The time. One before the clock happens at the clock.
@@ -119,16 +119,21 @@ pub fn write_capture(configuration: &Configuration, events: &[Event]) -> Vec<u8>
 pub fn read_capture(file: &[u8]) -> Result<(Configuration, Vec<Event>), Refused> {
     let broken = Refused::BROKEN_CAPTURE;
     let (rest, trailer) = file.split_last_chunk::<TRAILER_BYTES>().ok_or(broken)?;
-    let (events, bytes) = rest
-        .split_last_chunk::<{ configuration::BYTES }>()
-        .ok_or(broken)?;
     let [a, b, c, d, e, f, g, h] = *trailer;
     let offset = u64::from(u32::from_le_bytes([a, b, c, d]));
     let count = u64::from(u32::from_le_bytes([e, f, g, h]));
-    if offset != EVENT_BYTES as u64 * count || offset != events.len() as u64 {
+    if offset != EVENT_BYTES as u64 * count || offset > rest.len() as u64 {
         return Err(broken);
     }
-    let configuration = Configuration::decode(bytes)?;
+    let (events, tail) = rest.split_at(EVENT_BYTES * count as usize);
+    let (bytes, rate) = tail
+        .split_first_chunk::<{ configuration::BYTES }>()
+        .ok_or(broken)?;
+    let rate = match *rate {
+        [] => configuration::GIGAHERTZ,
+        _ => u64::from_le_bytes(rate.try_into().map_err(|_| broken)?),
+    };
+    let configuration = Configuration::decode(bytes, rate)?;
     let events = events.chunks_exact(EVENT_BYTES).map(|event| {
         let at = std::array::from_fn(|byte| event[byte]);
         Event::listed(u64::from_le_bytes(at), event[8], event[9])

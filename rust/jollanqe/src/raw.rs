@@ -66,7 +66,8 @@ pub struct Optics {
     pub initial_gray: u8,
 }
 
-/// How long each operation keeps `BUSY_N` low, in nanoseconds.
+/// How long each operation keeps `BUSY_N` low, in nanoseconds; and the clock in whose cycles every
+/// other time is.
 #[derive(Clone, Copy, Debug, PartialEq, Eq)]
 #[repr(C)]
 pub struct Timing {
@@ -82,6 +83,8 @@ pub struct Timing {
     pub hardware_reset: u64,
     /// By the code of 30, PLL; none of them 0.
     pub frame_period: [u64; 32],
+    /// Of the board's clock in Hz, 1 to 1,000,000,000.
+    pub rate: u64,
 }
 
 /// The registers, but for the tables.
@@ -292,7 +295,7 @@ pub struct Asked {
 const _: () = assert!(size_of::<Area>() == 8 && offset_of!(Area, y1) == 6);
 const _: () = assert!(size_of::<Pair>() == 4 && size_of::<Cursor>() == 4);
 const _: () = assert!(size_of::<Geometry>() == 6 && size_of::<Optics>() == 16);
-const _: () = assert!(size_of::<Timing>() == 296 && offset_of!(Timing, frame_period) == 40);
+const _: () = assert!(size_of::<Timing>() == 304 && offset_of!(Timing, rate) == 296);
 const _: () = assert!(size_of::<Registers>() == 28 && offset_of!(Registers, partial) == 26);
 const _: () = assert!(size_of::<Luts>() == 210 && size_of::<Group>() == 9);
 const _: () = assert!(size_of::<Levels>() == 6 && size_of::<Log>() == 16);
@@ -300,8 +303,8 @@ const _: () = assert!(size_of::<Waveform>() == 336 && offset_of!(Waveform, frame
 const _: () = assert!(size_of::<Active>() == 18 && offset_of!(Active, past_reported) == 16);
 const _: () = assert!(size_of::<Operation>() == 32 && offset_of!(Operation, work) == 24);
 const _: () = assert!(size_of::<Image>() == 32 && offset_of!(Image, interrupted) == 29);
-const _: () = assert!(size_of::<Record>() == 1016 && offset_of!(Record, current) == 1013);
-const _: () = assert!(size_of::<Given>() == 1024 && offset_of!(Given, answer) == 1018);
+const _: () = assert!(size_of::<Record>() == 1024 && offset_of!(Record, current) == 1021);
+const _: () = assert!(size_of::<Given>() == 1032 && offset_of!(Given, answer) == 1026);
 const _: () = assert!(size_of::<Asked>() == 16 && offset_of!(Asked, known) == 9);
 
 // SAFETY, of each: a pointer and the length after it are those of one slice; a slice behind a `*mut`

@@ -4,7 +4,7 @@ use std::error::Error;
 use std::fmt;
 
 /// The words by number; 0 is none.
-const WORDS: [&str; 11] = [
+const WORDS: [&str; 14] = [
     "taken",
     "empty panel",
     "oversized panel",
@@ -16,6 +16,9 @@ const WORDS: [&str; 11] = [
     "broken capture",
     "bad event",
     "too many pixels",
+    "malformed dump",
+    "signals",
+    "rate out of range",
 ];
 
 /// A refusal, by the number and the word of docs/FORMAT.md. Nothing was changed by the call.
@@ -34,7 +37,7 @@ impl Refused {
         }
     }
 
-    /// The number, 1 to 10.
+    /// The number, 1 to 13.
     #[must_use]
     pub fn number(self) -> u8 {
         self.0

@@ -90,7 +90,7 @@ fn the_worked_example() {
 }
 
 #[test]
-fn a_configuration_out_of_range_is_refused_by_1_to_4() {
+fn a_configuration_out_of_range_is_refused_by_1_to_4_and_13() {
     let made = |change: fn(&mut Configuration)| {
         let mut configuration = small();
         change(&mut configuration);
@@ -102,6 +102,12 @@ fn a_configuration_out_of_range_is_refused_by_1_to_4() {
     assert_eq!(made(|of| of.full_swing = 0), (3, "swing"));
     assert_eq!(made(|of| of.full_swing = 1 << 63), (3, "swing"));
     assert_eq!(made(|of| of.frame_periods[31] = 0), (4, "frame period"));
+    assert_eq!(made(|of| of.rate = 0), (13, "rate out of range"));
+    assert_eq!(
+        made(|of| of.rate = 1_000_000_001),
+        (13, "rate out of range")
+    );
+    assert_eq!(made(|of| of.rate = 1), (0, ""));
 }
 
 #[test]
@@ -253,6 +259,30 @@ fn a_capture_is_written_and_read() {
     assert_eq!(changed(31, 8), bad); // a flag
     assert_eq!(changed(8, 6), bad); // a kind
     assert_eq!(changed(9, 1), bad); // a value
+}
+
+#[test]
+fn a_capture_with_a_rate_is_written_and_read() {
+    let events = [What::Read, What::Data(9)].map(|what| Event { at: 7, what });
+    for rate in [0, 1, 32_768, 999_999_999, 1_000_000_001, u64::MAX] {
+        let of = Configuration { rate, ..small() };
+        let file = write_capture(&of, &events);
+        assert_eq!(file.len(), 20 + 320 + 8);
+        assert_eq!(read_capture(&file), Ok((of, events.to_vec())));
+        for length in 0..file.len() {
+            assert_eq!(
+                numbers(read_capture(&file[..length])),
+                (8, "broken capture")
+            );
+        }
+    }
+    let file = write_capture(&small(), &events);
+    assert_eq!(file.len(), 20 + 312 + 8);
+    let (front, trailer) = file.split_at(file.len() - 8);
+    let said = [front, &1_000_000_000_u64.to_le_bytes(), trailer].concat();
+    assert_eq!(read_capture(&said), Ok((small(), events.to_vec())));
+    let half = [front, &[0; 4], trailer].concat();
+    assert_eq!(numbers(read_capture(&half)), (8, "broken capture"));
 }
 
 #[test]

@@ -4,6 +4,7 @@ use Rattle.controller.specs.declared.Work.the-variants as work
 use Rattle.controller.specs.Arrives.{starting}
 use Rattle.command_bytes.proofs.Executed.{pon-on, pon-off, pof-on, pof-off, drf, ptin, ptout, dtm, dsp, other}
 use Rattle.controller.specs.World.{world, buffers}
+use Rattle.controller.specs.Counting.{own}
 use borrow.Author.Needs.{needs}
 use Rattle.command_bytes.proofs.execute.Statement.{statement}
 use Rattle.command_bytes.proofs.execute.Tie as tie
@@ -12,10 +13,10 @@ returns : tie.Need-returns
 returns c = λ states picture. pon-on _ (c .before .match .keys1) (c .if1 .taken)
 
 returns-2 : tie.Need-returns-2
-returns-2 c = λ states picture. let g = c .before .before .before .before .before .before .before .args in let w = world (g .p) (buffers (g .old .now) (g .new .now) states (g .table-numbers .now) picture (g .rows .now)) in pof-on w (c .before .before .match .keys2) (c .before .if2 .taken) (changed (starting work.PowerOff (g .p .config .timing .«power_off»)) (g .p) (c .start2 .ensures))
+returns-2 c = λ states picture. let g = c .before .before .before .before .before .before .before .args in let w = world (g .p) (buffers (g .old .now) (g .new .now) states (g .table-numbers .now) picture (g .rows .now)) in pof-on w (c .before .before .match .keys2) (c .before .if2 .taken) (changed (starting own work.PowerOff (g .p .config .timing .«power_off»)) (g .p) (c .start2 .ensures))
 
 returns-3 : tie.Need-returns-3
-returns-3 c = λ states picture. let g = c .before .before .before .before .before .before .before .args in let w = world (g .p) (buffers (g .old .now) (g .new .now) states (g .table-numbers .now) picture (g .rows .now)) in pon-off w (c .before .before .match .keys1) (c .before .if1 .left) (changed (starting work.PowerOn (g .p .config .timing .«power_on»)) (g .p) (c .start .ensures))
+returns-3 c = λ states picture. let g = c .before .before .before .before .before .before .before .args in let w = world (g .p) (buffers (g .old .now) (g .new .now) states (g .table-numbers .now) picture (g .rows .now)) in pon-off w (c .before .before .match .keys1) (c .before .if1 .left) (changed (starting own work.PowerOn (g .p .config .timing .«power_on»)) (g .p) (c .start .ensures))
 
 returns-4 : tie.Need-returns-4
 returns-4 c = λ states picture. pof-off _ (c .before .match .keys2) (c .if2 .left)

@@ -1,42 +1,60 @@
--- `numbers::eight_of_ones` meets its contract: the high four bits of both bytes, then the low four.
-use mathlib.Core.Path.{_≡_, ap, _∙_}
-use mathlib.Core.List.{List}
-use Prim.Native.Nat.{ℕ, _+_, _/_, _<_}
-use native.Mathlib.Omega.{arith}
-use Rattle.numbers.specs.Filled.{filled}
-use Rattle.numbers.specs.InnerRow.{numberOfBit, byteOf, Four}
-use Rattle.numbers.proofs.FilledLaws.{filled-below, filled-on}
-use Rattle.numbers.proofs.BitLaws.{number-high}
+-- `numbers::eight_of_ones` meets its contract. After k turns the first k entries are written.
 use borrow.Author.Needs.{needs}
+use mathlib.Core.Path.{_≡_, refl, ap, _∙_}
+use Prim.Native.Nat.{ℕ, _+_, _-_, _≤_}
+use native.Mathlib.Omega.{arith}
+use lib.ListN.{length, set, length-set}
+use Rattle.numbers.specs.Filled.{filled}
+use Rattle.numbers.specs.InnerRow.{numberOfBit}
+use Rattle.numbers.proofs.FilledLaws.{filled-more}
+use Rattle.numbers.proofs.BitLaws.{number-of-ones}
 use Rattle.numbers.proofs.eight_of_ones.Statement.{statement}
 use Rattle.numbers.proofs.eight_of_ones.Tie as tie
 
-two-fours : (old new p w v : ℕ) (l : List ℕ) → old < 256 → new < 256 → Four (old / 16) (new / 16) w → Four old new v
-    → filled (byteOf v) (p + 4) 4 (filled (byteOf w) p 4 l) ≡ filled (numberOfBit old new 1) p 8 l
-unfolding Four
-two-fours old new p w v l ho hn hw hv =
-    let f = numberOfBit old new 1 in
-    ap (filled (byteOf v) (p + 4) 4) (filled-below (byteOf w) f p 4 l (λ k h. hw k h ∙ number-high old new k ho hn h))
-    ∙ filled-below (byteOf v) (λ k. f (4 + k)) (p + 4) 4 (filled f p 4 l) (λ k h. hv k h ∙ ap f {x = k + 4} {y = 4 + k} (omega arith))
-    ∙ filled-on f p 4 4 l
+abbrev Inv-loop : tie.InvT-loop
+Inv-loop numbers₀ at old new k₀ numbers k = (numbers ≡ filled (numberOfBit old new 1) at k numbers₀) × (k ≤ 8) × (length numbers ≡ length numbers₀)
 
-returns : tie.Need-returns
+abbrev μ-loop : tie.MeasureT-loop
+μ-loop numbers₀ at old new k₀ numbers k = 8 - k
+
+loop-holds : tie.Need-loop-holds Inv-loop μ-loop
+loop-holds c = (refl, omega arith, refl)
+
+loop-again : tie.Need-loop-again Inv-loop μ-loop
+loop-again c =
+    let l = c .before .loop in
+    let s = c .before .before .args in
+    ((λ i. set (l .inv .0 i) (s .at + l .k) (number-of-ones (s .old) (s .new) (l .k) i)) ∙ filled-more (numberOfBit (s .old) (s .new) 1) (s .at) (l .k) (s .numbers .now), omega arith, length-set (l .numbers) (s .at + l .k) _ ∙ l .inv .2)
+
+same-length : tie.Need-same-length Inv-loop μ-loop
+same-length c = c .before .loop .inv .2
+
+returns : tie.Need-returns Inv-loop μ-loop
 returns c =
-    let s = c .before .before .before .before .before .before .before .before .before .before .before .args in
-    let w = c .before .before .before .before .before .before .before .before .four in
-    let v = c .before .before .before .four2 in
-    c .before .before .put-four2 .ensures
-    ∙ ap (filled (byteOf (v .result)) (s .at + 4) 4) (c .before .before .before .before .before .before .before .put-four .ensures)
-    ∙ two-fours (s .old) (s .new) (s .at) (w .result) (v .result) (s .numbers .now) (omega arith) (omega arith) (w .ensures) (v .ensures)
+    let l = c .before .loop in
+    let s = c .before .before .args in
+    l .inv .0 ∙ ap (λ (n : ℕ). filled (numberOfBit (s .old) (s .new) 1) (s .at) n (s .numbers .now)) {x = l .k} {y = 8} (omega arith)
 
 pub eight-of-ones-spec : {M : Type 1} → statement M
 eight-of-ones-spec =
     tie.close
     (tie.spec
-    (λ c κs. search needs)
-    (λ c κs. search needs)
+    Inv-loop
+    μ-loop
+    loop-holds
     (λ c. search needs)
-    (λ c κs. search needs)
-    (λ c κs. search needs)
     (λ c. search needs)
+    (λ c. search needs)
+    (λ c. search needs)
+    (λ c. search needs)
+    (λ c. search needs)
+    (λ c. search needs)
+    (λ c. search needs)
+    (λ c. search needs)
+    (λ c. search needs)
+    (λ c. search needs)
+    (λ c. search needs)
+    (λ c. search needs)
+    loop-again
+    same-length
     returns)

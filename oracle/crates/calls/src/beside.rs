@@ -1,11 +1,11 @@
 //! The library beside the published Rust: the same events, and after each the same answers.
 
-use chips::lines::ONE_GIGAHERTZ;
 use chips::uc8253::{PanelImage, RefreshKind, Uc8253};
 use emu_core::{Cycles, Level};
 use jollanqe::raw::Image;
 use jollanqe::{Answer, Panel, Refused};
 use oracle::capture::{Capture, Configuration, Event};
+use oracle::clock::Clock;
 use oracle::log::Log;
 use oracle::refusal::Refusal;
 use oracle::rows::{self, KIND_WORDS};
@@ -29,6 +29,8 @@ pub struct Before {
 }
 
 pub struct Beside {
+    /// The board's clock.
+    pub board: Clock,
     pub ours: Panel,
     pub rust: Uc8253,
     /// The same chip, but its rows are taken after every event: they are what the event reported,
@@ -58,10 +60,6 @@ fn panel(configuration: &Configuration) -> Result<Panel, Refused> {
     };
     let (configuration, _) = jollanqe::read_capture(&capture.encode())?;
     Panel::new(&configuration)
-}
-
-fn chip(configuration: &Configuration) -> Result<Uc8253, Refusal> {
-    Ok(Uc8253::new(configuration.chip(), ONE_GIGAHERTZ)?)
 }
 
 /// A read's answer as the library numbers it.
@@ -119,7 +117,7 @@ fn rust_facts(image: &PanelImage) -> Facts {
 
 impl Beside {
     pub fn make(configuration: &Configuration) -> Result<Made, Difference> {
-        let (ours, rust) = match (panel(configuration), chip(configuration)) {
+        let (ours, rust) = match (panel(configuration), run::make_any(configuration)) {
             (Ok(ours), Ok(rust)) => (ours, rust),
             (made, rust) => {
                 let refused = made.err().map(Refused::number);
@@ -129,9 +127,10 @@ impl Beside {
             }
         };
         let mut beside = Beside {
+            board: configuration.clock().expect("it is made"),
             ours,
             rust,
-            emptied: chip(configuration).expect("made once already"),
+            emptied: run::make_any(configuration).expect("made once already"),
             log: Log::default(),
             compared: 0,
             reported: [0; KIND_WORDS.len()],

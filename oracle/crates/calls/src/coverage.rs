@@ -5,6 +5,7 @@ use std::fmt::Write;
 
 use chips::uc8253::RefreshKind;
 use oracle::capture::{self, Configuration, Event};
+use oracle::clock::{Clock, GIGAHERTZ};
 use oracle::rows::KIND_WORDS;
 
 use crate::beside::{Beside, deadline};
@@ -56,6 +57,10 @@ const SECTIONS: [Section; 9] = [
             "swing 2^63 - 1",
             "a period of 1",
             "a period from 2^40",
+            "no rate",
+            "a rate below 1,000 Hz",
+            "a rate from 1,000 Hz, below 1 GHz",
+            "a rate of 1 GHz or more",
         ],
     ),
     (SINGLE, EVENTS),
@@ -133,15 +138,26 @@ fn event_word(event: Event) -> &'static str {
     EVENTS[usize::from(event.kind - capture::COMMAND)]
 }
 
-/// Where a reset came that cut a refresh: so many nanoseconds after its start.
-fn cut_word(elapsed: u64, period: u64) -> &'static str {
-    match (elapsed, elapsed.checked_rem(period).unwrap_or(0)) {
+/// Where a reset came that cut a refresh: so many cycles after its start.
+fn cut_word(board: Clock, elapsed: u64, period: u64) -> &'static str {
+    let whole = |cycles: u64| board.nanos(cycles) / period;
+    let frames = whole(elapsed);
+    match (elapsed, elapsed - board.cycles(frames * period)) {
         (0, _) => "at the start",
         (_, 0) => "on a boundary",
         (1, _) => "one after the start",
-        (_, rest) if rest + 1 == period => "one before a boundary",
+        _ if whole(elapsed.saturating_add(1)) > frames => "one before a boundary",
         (_, 1) => "one after a boundary",
         _ => "elsewhere between",
+    }
+}
+
+fn rate_word(rate: Option<u64>) -> &'static str {
+    match rate {
+        None => "no rate",
+        Some(0..1_000) => "a rate below 1,000 Hz",
+        Some(1_000..GIGAHERTZ) => "a rate from 1,000 Hz, below 1 GHz",
+        Some(_) => "a rate of 1 GHz or more",
     }
 }
 
@@ -185,6 +201,7 @@ impl Coverage {
         self.add_if(of.periods.contains(&1), SETTINGS, "a period of 1");
         let long = of.periods.iter().any(|&period| period >= 1 << 40);
         self.add_if(long, SETTINGS, "a period from 2^40");
+        self.add(SETTINGS, rate_word(of.rate), 1);
     }
 
     fn events(&mut self, steps: &[Step]) {
@@ -248,7 +265,7 @@ impl Coverage {
         let elapsed = image.at.get() - image.started.get();
         if image.interrupted {
             let period = beside.ours.record().waveform.frame_ns;
-            self.add(RESETS, cut_word(elapsed, period), 1);
+            self.add(RESETS, cut_word(beside.board, elapsed, period), 1);
             self.add_if(image.at.get() + 1 == end, RESETS, "one before the end");
         } else {
             self.add_if(event.time == end, RESETS, "at the end");

@@ -40,7 +40,8 @@ pub fn make(configuration: &[u8]) -> Result<Uc8253, u8> {
     run::make_any(&configuration).map_err(Refusal::number)
 }
 
-/// The chip and the events to come, or the first refusal: 8, 11, 12, 9, 1 to 4.
+/// The chip and the events to come, or the first refusal: 8, 11, 12, 9, 1 to 4. A dump's
+/// configuration has no rate.
 pub fn accept(configuration: &[u8], dump: &[u8]) -> Result<(Uc8253, Vec<Event>), u8> {
     if configuration.len() != CONFIGURATION_BYTES {
         return Err(Refusal::BrokenCapture.number());

@@ -7,7 +7,8 @@ use std::path::Path;
 use std::process::{Command, Stdio};
 use std::time::{Duration, Instant};
 
-use crate::capture::{EVENT_BYTES, MOST_BYTES, TAIL_BYTES};
+use crate::capture::{EVENT_BYTES, MOST_BYTES, RATE_BYTES, RATED_TAIL_BYTES, TRAILER_BYTES};
+use crate::clock::GIGAHERTZ;
 use crate::generate;
 use crate::rng::Rng;
 use crate::run;
@@ -128,7 +129,7 @@ impl Comparison<'_> {
 /// A generated capture after a few blows, or bytes without any order.
 fn damage(rng: &mut Rng) -> Vec<u8> {
     if rng.chance(3) {
-        let length = rng.edgy(&[0, 1, 319, 320, 321, MOST_BYTES as u64], 0, 70_000);
+        let length = rng.edgy(&[0, 1, 319, 320, 321, 328, MOST_BYTES as u64], 0, 70_000);
         return (0..length).map(|_| rng.byte()).collect();
     }
     let mut file = generate::make(rng.any());
@@ -144,7 +145,7 @@ fn place(rng: &mut Rng, file: &[u8]) -> usize {
 
 /// A place in the configuration or the trailer, where most bytes decide something.
 fn tail_place(rng: &mut Rng, file: &[u8]) -> usize {
-    file.len() - rng.between(1, TAIL_BYTES.min(file.len()) as u64) as usize
+    file.len() - rng.between(1, RATED_TAIL_BYTES.min(file.len()) as u64) as usize
 }
 
 fn blow(rng: &mut Rng, file: &mut Vec<u8>) {
@@ -152,7 +153,7 @@ fn blow(rng: &mut Rng, file: &mut Vec<u8>) {
         file.push(rng.byte());
         return;
     }
-    match rng.below(8) {
+    match rng.below(9) {
         // a bit, anywhere
         0 => {
             let at = rng.below(file.len() as u64) as usize;
@@ -193,6 +194,18 @@ fn blow(rng: &mut Rng, file: &mut Vec<u8>) {
                 for byte in 0..EVENT_BYTES {
                     file.swap(first + byte, second + byte);
                 }
+            }
+        }
+        // a rate put in, or what may be one taken out
+        7 => {
+            let Some(trailer) = file.len().checked_sub(TRAILER_BYTES) else {
+                return;
+            };
+            if rng.chance(50) {
+                let rate = rng.edgy(&[0, 1, 3, GIGAHERTZ, GIGAHERTZ + 1], 0, u64::MAX);
+                file.splice(trailer..trailer, rate.to_le_bytes());
+            } else {
+                file.drain(trailer.saturating_sub(RATE_BYTES)..trailer);
             }
         }
         // a kind or a value of an event

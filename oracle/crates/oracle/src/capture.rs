@@ -1,8 +1,9 @@
-//! The capture file of document 01: its layout, and refusals 8 and 9.
+//! The capture file of document 01, with the rate of 2026-05: its layout, and refusals 8 and 9.
 
 use chips::glass::{Optics, Provenance};
 use chips::uc8253::{FRAME_RATE_CODES, Uc8253Config, Uc8253Geometry, Uc8253Timing, Variant};
 
+use crate::clock::{Clock, GIGAHERTZ};
 use crate::refusal::Refusal;
 
 pub const EVENT_BYTES: usize = 10;
@@ -10,8 +11,13 @@ pub const CONFIGURATION_BYTES: usize = 312;
 pub const TRAILER_BYTES: usize = 8;
 /// What follows the events: the configuration and the trailer that points back to it.
 pub const TAIL_BYTES: usize = CONFIGURATION_BYTES + TRAILER_BYTES;
+/// The rate, with which a configuration may end.
+pub const RATE_BYTES: usize = 8;
+/// The tail of a file whose configuration ends with a rate.
+pub const RATED_TAIL_BYTES: usize = TAIL_BYTES + RATE_BYTES;
 pub const MOST_BYTES: usize = 65_536;
 pub const MOST_EVENTS: usize = (MOST_BYTES - TAIL_BYTES) / EVENT_BYTES;
+pub const MOST_RATED_EVENTS: usize = (MOST_BYTES - RATED_TAIL_BYTES) / EVENT_BYTES;
 
 /// The kinds of event.
 pub const COMMAND: u8 = 1;
@@ -88,9 +94,20 @@ pub struct Configuration {
     pub soft_reset: u64,
     pub hardware_reset: u64,
     pub periods: [u64; FRAME_RATE_CODES],
+    /// The board's rate in Hz, where the configuration ends with one.
+    pub rate: Option<u64>,
 }
 
 impl Configuration {
+    /// A configuration that ends with its rate.
+    pub fn decode_rated(bytes: &[u8]) -> Configuration {
+        Configuration {
+            rate: Some(number(bytes, CONFIGURATION_BYTES)),
+            ..Configuration::decode(bytes)
+        }
+    }
+
+    /// A configuration without a rate.
     pub fn decode(bytes: &[u8]) -> Configuration {
         Configuration {
             variant: bytes[0],
@@ -106,6 +123,7 @@ impl Configuration {
             soft_reset: number(bytes, 40),
             hardware_reset: number(bytes, 48),
             periods: std::array::from_fn(|code| number(bytes, PERIODS_AT + 8 * code)),
+            rate: None,
         }
     }
 
@@ -127,6 +145,32 @@ impl Configuration {
         for period in self.periods {
             file.extend(period.to_le_bytes());
         }
+        file.extend(self.rate.iter().flat_map(|rate| rate.to_le_bytes()));
+    }
+
+    /// Its bytes and those of the trailer.
+    pub fn tail_bytes(&self) -> usize {
+        match self.rate {
+            None => TAIL_BYTES,
+            Some(_) => RATED_TAIL_BYTES,
+        }
+    }
+
+    pub fn most_events(&self) -> usize {
+        match self.rate {
+            None => MOST_EVENTS,
+            Some(_) => MOST_RATED_EVENTS,
+        }
+    }
+
+    /// The rate in Hz; without one it is 1 GHz.
+    pub fn hertz(&self) -> u64 {
+        self.rate.unwrap_or(GIGAHERTZ)
+    }
+
+    /// The board's clock, or refusal 13.
+    pub fn clock(&self) -> Result<Clock, Refusal> {
+        Clock::of(self.hertz()).ok_or(Refusal::Rate)
     }
 
     pub fn flag(&self, bit: u8) -> bool {
@@ -187,11 +231,17 @@ impl Trailer {
         }
     }
 
+    /// Whether `tail` bytes lie from its offset to the end of a file of `length` bytes.
+    fn leaves(self, length: usize, tail: usize) -> bool {
+        length as u64 == u64::from(self.offset) + tail as u64
+    }
+
     /// Whether a file of `length` bytes ends as this trailer says; the products are exact.
     pub fn fits(self, length: usize) -> bool {
-        let offset = u64::from(self.offset);
-        offset == EVENT_BYTES as u64 * u64::from(self.count)
-            && length as u64 == offset + TAIL_BYTES as u64
+        u64::from(self.offset) == EVENT_BYTES as u64 * u64::from(self.count)
+            && [TAIL_BYTES, RATED_TAIL_BYTES]
+                .iter()
+                .any(|&tail| self.leaves(length, tail))
     }
 }
 
@@ -203,7 +253,8 @@ pub struct Capture {
 
 impl Capture {
     pub fn encode(&self) -> Vec<u8> {
-        let mut file = Vec::with_capacity(EVENT_BYTES * self.events.len() + TAIL_BYTES);
+        let tail = self.configuration.tail_bytes();
+        let mut file = Vec::with_capacity(EVENT_BYTES * self.events.len() + tail);
         for event in &self.events {
             event.encode(&mut file);
         }
@@ -216,12 +267,30 @@ impl Capture {
         file
     }
 
+    /// Whether a file that has room for a rate has one: by its trailer, or, where that is wrong, by
+    /// what whole events leave over.
+    fn is_rated(file: &[u8]) -> bool {
+        let Some(most) = file.len().checked_sub(RATED_TAIL_BYTES) else {
+            return false;
+        };
+        let trailer = Trailer::decode(&file[file.len() - TRAILER_BYTES..]);
+        if trailer.leaves(file.len(), TAIL_BYTES) {
+            return false;
+        }
+        trailer.leaves(file.len(), RATED_TAIL_BYTES) || most % EVENT_BYTES == 0
+    }
+
     /// The events and the configuration where a whole file has them; bytes left over before the
     /// configuration are passed over. None if there is no room for a configuration.
     pub fn salvage(file: &[u8]) -> Option<Capture> {
-        let events = &file[..file.len().checked_sub(TAIL_BYTES)?];
+        let (tail, decode): (_, fn(&[u8]) -> Configuration) = if Capture::is_rated(file) {
+            (RATED_TAIL_BYTES, Configuration::decode_rated)
+        } else {
+            (TAIL_BYTES, Configuration::decode)
+        };
+        let events = &file[..file.len().checked_sub(tail)?];
         Some(Capture {
-            configuration: Configuration::decode(&file[events.len()..]),
+            configuration: decode(&file[events.len()..]),
             events: events
                 .chunks_exact(EVENT_BYTES)
                 .map(Event::decode)

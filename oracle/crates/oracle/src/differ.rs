@@ -32,20 +32,27 @@ fn sides<T>(a: &[T], b: &[T], at: usize, words: impl Fn(&T) -> String) -> String
     }
 }
 
-/// A capture that was accepted, its configuration as the file has it, and what it leaves.
+/// A capture that was accepted, the 312 bytes of its configuration, its rate, whether the file has
+/// that or not, and what it leaves.
 struct Side {
     events: Vec<Event>,
     configuration: Vec<u8>,
+    hertz: u64,
     outcome: Outcome,
 }
 
 fn side(file: &[u8]) -> Result<Side, u8> {
     let (capture, chip) = run::accept_any(file).map_err(|refusal| refusal.number())?;
-    let Capture { events, .. } = capture;
-    let from = file.len() - CONFIGURATION_BYTES - 8;
+    let Capture {
+        configuration: of,
+        events,
+    } = capture;
+    let from = file.len() - of.tail_bytes();
+    let configuration = file[from..from + CONFIGURATION_BYTES].to_vec();
     Ok(Side {
         outcome: run::events(chip, &events, |_, _, _| ()),
-        configuration: file[from..from + CONFIGURATION_BYTES].to_vec(),
+        configuration,
+        hertz: of.hertz(),
         events,
     })
 }
@@ -112,7 +119,8 @@ pub fn differ(names: [&str; 2], files: [&[u8]; 2]) -> String {
     };
     let byte = first(&a.configuration, &b.configuration);
     let finding = finding(&a, &b);
-    if byte.is_none() && finding.is_none() {
+    let rates = byte.is_none() && a.hertz != b.hertz;
+    if byte.is_none() && !rates && finding.is_none() {
         return "the captures agree\n".to_string();
     }
     if let Some(at) = byte {
@@ -121,6 +129,9 @@ pub fn differ(names: [&str; 2], files: [&[u8]; 2]) -> String {
             "configuration byte {at}: {}, {}",
             bytes.0, bytes.1
         ));
+    }
+    if rates {
+        say(&format!("configuration rate: {}, {}", a.hertz, b.hertz));
     }
     if let Some(line) = finding {
         say(&line);

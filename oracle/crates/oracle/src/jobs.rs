@@ -114,7 +114,7 @@ fn variations() -> Vec<(&'static str, Vec<u8>)> {
 }
 
 /// The captures of the batch by name: the large panel and small cases.
-const CASES: [&str; 12] = [
+const CASES: [&str; 16] = [
     "example",
     "upright",
     "reads-uc8279d",
@@ -127,10 +127,14 @@ const CASES: [&str; 12] = [
     "refused-9-kind",
     "refused-10",
     "empty-evening",
+    "rate-part-of-a-cycle",
+    "rate-cut-3",
+    "rate-1-ghz",
+    "refused-13-over",
 ];
 
 /// Those that are asked for cuts and pictures.
-const REPLAYED: [&str; 9] = [
+const REPLAYED: [&str; 12] = [
     "cut-twice",
     "reset-before-frame",
     "reset-on-frame",
@@ -140,10 +144,13 @@ const REPLAYED: [&str; 9] = [
     "large",
     "refused-9-kind",
     "empty-evening",
+    "rate-cut-3",
+    "rate-cut-7",
+    "refused-13-over",
 ];
 
 /// Those that are compared.
-const PAIRS: [[&str; 2]; 10] = [
+const PAIRS: [[&str; 2]; 13] = [
     ["example", "example"],
     ["example", "other-event"],
     ["example", "shorter"],
@@ -154,6 +161,9 @@ const PAIRS: [[&str; 2]; 10] = [
     ["example", "wide"],
     ["large", "cut-twice"],
     ["refused-2", "refused-8"],
+    ["example", "rate-1-ghz"],
+    ["rate-1-ghz", "rate-3-hz"],
+    ["rate-cut-3", "rate-cut-7"],
 ];
 
 /// A batch as it grows: its captures, its lines, what it has to write.
@@ -178,14 +188,16 @@ impl Batch {
 fn captures() -> Vec<(&'static str, Vec<u8>)> {
     let mut files = vec![("large", large()), ("cut-twice", cut_twice())];
     files.extend(variations());
-    let resets = [
+    let others = [
         "reset-before-frame",
         "reset-on-frame",
         "reset-at-start",
         "reset-at-end",
+        "rate-3-hz",
+        "rate-cut-7",
     ];
     let all = cases::all();
-    for name in CASES.into_iter().chain(resets) {
+    for name in CASES.into_iter().chain(others) {
         let case = all.iter().find(|case| case.name == name);
         files.push((name, case.expect("a case of that name").file.clone()));
     }

@@ -5,6 +5,7 @@ pub mod against;
 pub mod answers;
 pub mod capture;
 pub mod cases;
+pub mod clock;
 pub mod cuts;
 pub mod differ;
 pub mod generate;

@@ -2,7 +2,7 @@
 
 use std::fmt::Write;
 
-use crate::capture::{self, Capture, Configuration, EVENT_BYTES, Event, TAIL_BYTES, Trailer};
+use crate::capture::{self, Capture, Configuration, EVENT_BYTES, Event, Trailer};
 use crate::names;
 use crate::run;
 
@@ -81,6 +81,9 @@ fn configuration_lines(text: &mut String, of: &Configuration) {
         let _ = writeln!(text, "{what} {time} ns");
     }
     period_lines(text, &of.periods);
+    if let Some(rate) = of.rate {
+        let _ = writeln!(text, "rate {rate} Hz");
+    }
 }
 
 fn head_lines(text: &mut String, file: &[u8]) {
@@ -116,7 +119,8 @@ pub fn list(file: &[u8]) -> String {
     head_lines(&mut text, file);
     if let Some(capture) = Capture::salvage(file) {
         configuration_lines(&mut text, &capture.configuration);
-        event_lines(&mut text, &file[..file.len() - TAIL_BYTES]);
+        let tail = capture.configuration.tail_bytes();
+        event_lines(&mut text, &file[..file.len() - tail]);
     } else {
         let _ = writeln!(text, "too short for a configuration, read as events:");
         event_lines(&mut text, file);

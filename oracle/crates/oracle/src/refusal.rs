@@ -1,4 +1,4 @@
-//! The refusals that the program can give, with document 01's numbers.
+//! The refusals that the program can give, with their numbers of documents 01 and 02.
 
 use chips::uc8253::ConfigError;
 
@@ -11,17 +11,19 @@ pub enum Refusal {
     BrokenCapture,
     BadEvent,
     TooManyPixels,
+    Rate,
 }
 
 impl Refusal {
     /// Every refusal of the program, in the order of its tests.
-    pub const IN_ORDER: [Refusal; 7] = [
+    pub const IN_ORDER: [Refusal; 8] = [
         Refusal::BrokenCapture,
         Refusal::BadEvent,
         Refusal::EmptyPanel,
         Refusal::OversizedPanel,
         Refusal::Swing,
         Refusal::FramePeriod,
+        Refusal::Rate,
         Refusal::TooManyPixels,
     ];
 
@@ -34,6 +36,7 @@ impl Refusal {
             Refusal::BrokenCapture => 8,
             Refusal::BadEvent => 9,
             Refusal::TooManyPixels => 10,
+            Refusal::Rate => 13,
         }
     }
 
@@ -46,6 +49,7 @@ impl Refusal {
             Refusal::BrokenCapture => "broken capture",
             Refusal::BadEvent => "bad event",
             Refusal::TooManyPixels => "too many pixels",
+            Refusal::Rate => "rate out of range",
         }
     }
 }

@@ -5,7 +5,7 @@ use std::io;
 use std::path::Path;
 
 use crate::cases;
-use crate::generate;
+use crate::generate::{self, rate};
 use crate::run;
 
 /// How a capture ends.
@@ -37,6 +37,14 @@ impl End {
             End::Interrupted => 3_500,
         }
     }
+}
+
+/// To so many captures without a rate there is one with.
+const RATED_SHARE: usize = 2;
+
+/// The capture of a seed that has a rate.
+fn rated(seed: u64) -> Option<Vec<u8>> {
+    rate::board(seed).map(|_| generate::make(seed))
 }
 
 /// How a capture ends, and its output.
@@ -80,13 +88,13 @@ impl Sample {
         }
     }
 
-    /// So many captures of the seeds from `seed` on, the larger ones left out.
-    fn add_generated(&mut self, seed: u64, count: usize) {
+    /// So many captures that `make` gives of the seeds from `seed` on, the larger ones left out.
+    fn add_generated(&mut self, seed: u64, count: usize, make: impl Fn(u64) -> Option<Vec<u8>>) {
         let mut left = ENDS.map(|end| end.share(count));
         let mut seeds = seed..;
         while left != [0; ENDS.len()] {
             let Some(seed) = seeds.next() else { return };
-            let file = generate::make(seed);
+            let Some(file) = make(seed) else { continue };
             let (end, output) = played(&file);
             let left = &mut left[end as usize];
             if *left > 0 && file.len() <= end.most_bytes() {
@@ -100,7 +108,8 @@ impl Sample {
 pub fn sample(seed: u64, count: usize) -> Sample {
     let mut sample = Sample::default();
     sample.add_cases();
-    sample.add_generated(seed, count);
+    sample.add_generated(seed, count, |seed| Some(generate::plain(seed)));
+    sample.add_generated(seed, count / RATED_SHARE, rated);
     sample
 }
 

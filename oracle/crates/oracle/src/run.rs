@@ -7,6 +7,7 @@ use chips::uc8253::{PanelImage, RefreshKind, Uc8253};
 use emu_core::Cycles;
 
 use crate::capture::{self, Capture, Configuration, Event};
+use crate::clock::Clock;
 use crate::log::Log;
 use crate::refusal::Refusal;
 use crate::rows;
@@ -14,18 +15,22 @@ use crate::rows;
 /// The most pixels of the program's panel.
 pub const MOST_PIXELS: u64 = 8_000;
 
-/// The chip of a configuration, or refusals 1 to 4 by the Rust's own test, then 10.
+/// The chip of a configuration, or refusals 1 to 4 and 13, then 10.
 pub fn make(configuration: &Configuration) -> Result<Uc8253, Refusal> {
-    let chip = Uc8253::new(configuration.chip(), ONE_GIGAHERTZ)?;
+    let chip = make_any(configuration)?;
     if configuration.pixels() > MOST_PIXELS {
         return Err(Refusal::TooManyPixels);
     }
     Ok(chip)
 }
 
-/// The chip of a configuration of any size up to 800 by 600, or refusals 1 to 4.
+/// The chip of a configuration of any size up to 800 by 600, or refusals 1 to 4 by the Rust's own
+/// test, which comes before that of the rate, then 13.
 pub fn make_any(configuration: &Configuration) -> Result<Uc8253, Refusal> {
-    Ok(Uc8253::new(configuration.chip(), ONE_GIGAHERTZ)?)
+    let clock = configuration.clock();
+    let time_base = clock.map_or(ONE_GIGAHERTZ, Clock::time_base);
+    let chip = Uc8253::new(configuration.chip(), time_base)?;
+    clock.map(|_| chip)
 }
 
 /// What a word of `jollanqe` plays: the tests of the program without 10.

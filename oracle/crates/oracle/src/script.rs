@@ -22,6 +22,7 @@ pub fn example_panel() -> Configuration {
         soft_reset: 0,
         hardware_reset: 0,
         periods: [1_000; 32],
+        rate: None,
     }
 }
 
@@ -45,6 +46,7 @@ pub fn x3_panel() -> Configuration {
         soft_reset: of.timing.soft_reset,
         hardware_reset: of.timing.hardware_reset,
         periods: of.timing.frame_period,
+        rate: None,
     }
 }
 
@@ -74,6 +76,12 @@ impl Script {
     pub fn event(mut self, kind: u8, value: u8) -> Script {
         let time = self.time;
         self.capture.events.push(Event { time, kind, value });
+        self
+    }
+
+    /// The events of another script.
+    pub fn events(mut self, of: &Script) -> Script {
+        self.capture.events.extend(&of.capture.events);
         self
     }
 

@@ -2,7 +2,9 @@
 
 use std::thread;
 
-use crate::capture::{Capture, MOST_EVENTS, TAIL_BYTES, TRAILER_BYTES, Trailer};
+use crate::capture::{
+    Capture, MOST_EVENTS, MOST_RATED_EVENTS, RATED_TAIL_BYTES, TAIL_BYTES, TRAILER_BYTES, Trailer,
+};
 use crate::generate;
 use crate::refusal::Refusal;
 use crate::run;
@@ -30,6 +32,7 @@ fn faults(file: &[u8]) -> Vec<Refusal> {
             Refusal::Swing,
         ),
         (of.periods.contains(&0), Refusal::FramePeriod),
+        (of.clock().is_err(), Refusal::Rate),
         (of.pixels() > run::MOST_PIXELS, Refusal::TooManyPixels),
     ] {
         if met {
@@ -41,6 +44,11 @@ fn faults(file: &[u8]) -> Vec<Refusal> {
 
 fn add_refused(tally: &mut Tally, file: &[u8], refusal: Refusal) {
     *tally.refused.entry(refusal).or_default() += 1;
+    let salvaged = Capture::salvage(file);
+    tally.add_rate(
+        salvaged.and_then(|capture| capture.configuration.rate),
+        None,
+    );
     let faults = faults(file);
     assert_eq!(
         faults.first(),
@@ -61,21 +69,30 @@ fn add_refused(tally: &mut Tally, file: &[u8], refusal: Refusal) {
 }
 
 /// The items of the coverage list that only a refused file can show.
-fn refused_items(file: &[u8], refusal: Refusal) -> [(bool, &'static str); 3] {
+fn refused_items(file: &[u8], refusal: Refusal) -> [(bool, &'static str); 5] {
     let broken = refusal == Refusal::BrokenCapture;
-    let events = file.len().saturating_sub(TAIL_BYTES);
+    let has = |events: usize, tail: usize| file.len() == 10 * events + tail;
     let trailer = file.len().checked_sub(TRAILER_BYTES);
     let wraps = trailer.is_some_and(|start| {
         let Trailer { offset, count } = Trailer::decode(&file[start..]);
         count.wrapping_mul(10) == offset && u64::from(count) * 10 != u64::from(offset)
     });
+    let halved = trailer.is_some_and(|start| {
+        let offset = Trailer::decode(&file[start..]).offset as usize;
+        offset.checked_add(TAIL_BYTES + 4) == Some(file.len())
+    });
     let pixels = Capture::salvage(file).map_or(0, |capture| capture.configuration.pixels());
     let crowded = refusal == Refusal::TooManyPixels;
     [
         (
-            broken && events == 10 * (MOST_EVENTS + 1),
+            broken && has(MOST_EVENTS + 1, TAIL_BYTES),
             watch::ONE_EVENT_TOO_MANY,
         ),
+        (
+            broken && has(MOST_RATED_EVENTS + 1, RATED_TAIL_BYTES),
+            watch::ONE_RATED_EVENT_TOO_MANY,
+        ),
+        (broken && halved, watch::HALF_A_RATE),
         (broken && wraps, watch::WRAPPING_COUNT),
         (
             crowded && pixels == run::MOST_PIXELS + 1,
@@ -98,7 +115,9 @@ fn add_capture(tally: &mut Tally, seed: u64) {
     tally.add_rows(&outcome.log.stored);
     tally.dropped += outcome.log.dropped;
     tally.captures_with_dropped += u64::from(outcome.log.dropped != 0);
-    tally.add_facts(watch::facts(&capture));
+    let facts = watch::facts(&capture);
+    tally.add_rate(capture.configuration.rate, Some(&facts));
+    tally.add_facts(facts);
 }
 
 pub fn stats(seed: u64, count: u64) -> String {

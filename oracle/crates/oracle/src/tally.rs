@@ -3,9 +3,18 @@
 use std::collections::{BTreeMap, BTreeSet};
 use std::fmt::Write;
 
+use crate::generate::rate;
 use crate::refusal::Refusal;
 use crate::rows::KIND_WORDS;
 use crate::watch::{FAMILIES, ITEMS};
+
+/// A refresh that reset cut: when, the whole frames until then, and those of the whole refresh.
+#[derive(Clone, Copy, Debug, PartialEq, Eq)]
+pub struct Cut {
+    pub at: u64,
+    pub frames: u64,
+    pub of: u64,
+}
 
 /// What one accepted capture showed.
 #[derive(Default)]
@@ -15,7 +24,10 @@ pub struct Facts {
     /// Values met, of each family whose members are counted.
     pub values: BTreeMap<&'static str, BTreeSet<u64>>,
     pub ended: u64,
-    pub cut: u64,
+    /// Those that reset cut.
+    pub cuts: Vec<Cut>,
+    /// Those of them cut after a frame was driven and before the last.
+    pub inner: u64,
     pub ended_with_change: bool,
     pub cut_with_change: bool,
     /// A picture that changed has a grey that is neither 0 nor 255.
@@ -58,6 +70,18 @@ pub struct Tally {
     pub pixels: u64,
     pub seen: BTreeMap<&'static str, u64>,
     pub values: BTreeMap<&'static str, BTreeSet<u64>>,
+    /// The captures with a rate of each class, or with none.
+    pub rates: BTreeMap<&'static str, Rated>,
+}
+
+/// Captures of one class of rates, refused ones too, and the refreshes in those that are accepted.
+#[derive(Clone, Copy, Default)]
+pub struct Rated {
+    pub captures: u64,
+    pub ended: u64,
+    pub cut: u64,
+    /// Cut after a frame was driven and before the last.
+    pub inner: u64,
 }
 
 /// A kind of diagnostic: the captures it occurs in, and its stored rows.
@@ -70,7 +94,7 @@ pub struct Kind {
 impl Tally {
     pub fn add_facts(&mut self, facts: Facts) {
         self.ended += facts.ended;
-        self.cut += facts.cut;
+        self.cut += facts.cuts.len() as u64;
         self.ended_with_change += u64::from(facts.ended_with_change);
         self.cut_with_change += u64::from(facts.cut_with_change);
         self.between += u64::from(facts.between);
@@ -80,6 +104,17 @@ impl Tally {
         }
         for (family, values) in facts.values {
             self.values.entry(family).or_default().extend(values);
+        }
+    }
+
+    /// A capture with this rate or with none, and what it showed if it was accepted.
+    pub fn add_rate(&mut self, rate: Option<u64>, facts: Option<&Facts>) {
+        let rated = self.rates.entry(rate::class(rate)).or_default();
+        rated.captures += 1;
+        if let Some(facts) = facts {
+            rated.ended += facts.ended;
+            rated.cut += facts.cuts.len() as u64;
+            rated.inner += facts.inner;
         }
     }
 
@@ -114,6 +149,13 @@ impl Tally {
         self.between += other.between;
         self.events += other.events;
         self.pixels += other.pixels;
+        for (class, more) in other.rates {
+            let rated = self.rates.entry(class).or_default();
+            rated.captures += more.captures;
+            rated.ended += more.ended;
+            rated.cut += more.cut;
+            rated.inner += more.inner;
+        }
         for (family, values) in other.values {
             self.values.entry(family).or_default().extend(values);
         }
@@ -124,6 +166,7 @@ impl Tally {
         self.head(&mut text);
         self.refusals(&mut text);
         self.diagnostics(&mut text);
+        self.rates(&mut text);
         self.coverage(&mut text);
         text
     }
@@ -190,6 +233,21 @@ impl Tally {
         }
         let captures = self.captures_with_dropped;
         let _ = writeln!(text, "dropped captures {captures} rows {}", self.dropped);
+    }
+
+    fn rates(&self, text: &mut String) {
+        for name in rate::names() {
+            let Rated {
+                captures,
+                ended,
+                cut,
+                inner,
+            } = self.rates.get(name).copied().unwrap_or_default();
+            let _ = writeln!(
+                text,
+                "rate {name}: captures {captures} refreshes ended {ended} cut {cut}, {inner} of them in mid-refresh"
+            );
+        }
     }
 
     fn coverage(&self, text: &mut String) {

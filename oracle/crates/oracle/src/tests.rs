@@ -3,3 +3,4 @@
 mod format;
 mod paper;
 mod program;
+mod rates;

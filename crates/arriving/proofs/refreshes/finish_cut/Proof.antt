@@ -5,7 +5,7 @@ use Rattle.arriving.proofs.refreshes.finish_cut.Statement.{statement}
 use Rattle.arriving.proofs.refreshes.finish_cut.Tie as tie
 
 returns : tie.Need-returns
-returns c = λ old new rows. cut-parts _ _ _ old new _ _ _ rows _ _ _ (c .before .before .before .before .before .before .before .before .before .whole-frames .ensures) (c .before .before .before .before .before .before .before .drive-first .ensures) (c .before .before .before .draw .ensures) (c .publish .ensures)
+returns c = λ old new rows. cut-parts _ _ _ old new _ _ _ rows _ _ _ (c .before .before .before .before .before .before .before .before .before .elapsed .ensures) (c .before .before .before .before .before .before .before .drive-first .ensures) (c .before .before .before .draw .ensures) (c .publish .ensures)
 
 pub finish-cut-spec : {M : Type 1} → statement M
 finish-cut-spec =

@@ -1,45 +1,30 @@
 -- `capture::reading::read` meets its contract: the trailer and the configuration are those that the tests are of.
-use mathlib.Core.Path.{ap, _∙_}
 use Rattle.base.proofs.RefusalWords.{told}
-use Rattle.capture.specs.Layout.{configIn, configOf}
 use Rattle.capture.specs.Reading.{eventsEnd}
 use borrow.Author.Needs.{needs}
 use Rattle.capture.proofs.reading.read.Statement.{statement}
 use Rattle.capture.proofs.reading.read.Tie as tie
 
-config-at-requires : tie.Need-config-at-requires
-config-at-requires c κs = c .trailer-of .ensures .offset-fits
-
-refused-requires : tie.Need-refused-requires
-unfolding configIn
-refused-requires c κs =
-    let t = c .before .trailer-of .ensures in
-    let f = c .before .before .before .args .file .now in
-    (t, c .config-at .ensures ∙ ap (configOf f) (t .offset-is))
-
 returns : tie.Need-returns
-unfolding configIn eventsEnd
+unfolding eventsEnd
 returns c =
     let turned = c .before .before .before in
     let t = turned .before .before .trailer-of .ensures in
-    let f = turned .before .before .before .before .args .file .now in
     let none = told (c .before .before .none .ensures) (turned .refused .ensures) (c .before .if1 .taken) in
     record {
       number-is = turned .refused .ensures;
-      config-is = turned .before .config-at .ensures ∙ ap (configOf f) (t .offset-is);
+      config-is = turned .before .config-in .ensures;
       end-is = rw (← t .count-is) (simp none);
     }
 
 returns-2 : tie.Need-returns-2
-unfolding configIn eventsEnd
+unfolding eventsEnd
 returns-2 c =
     let turned = c .before .before in
-    let t = turned .before .before .trailer-of .ensures in
-    let f = turned .before .before .before .before .args .file .now in
     let some = told (c .before .none .ensures) (turned .refused .ensures) (c .if1 .left) in
     record {
       number-is = turned .refused .ensures;
-      config-is = turned .before .config-at .ensures ∙ ap (configOf f) (t .offset-is);
+      config-is = turned .before .config-in .ensures;
       end-is = simp some;
     }
 
@@ -48,8 +33,8 @@ read-spec =
     tie.close
     (tie.spec
     (λ c κs. search needs)
-    config-at-requires
-    refused-requires
+    (λ c κs. search needs)
+    (λ c κs. search needs)
     (λ c κs. search needs)
     (λ c. search needs)
     returns

@@ -33,10 +33,20 @@ returns-4 c =
 returns-5 : tie.Need-returns-5
 unfolding refusal
 returns-5 c =
-    let third = c .before .before in
+    let fourth = c .before .before in
+    let third = fourth .before .before in
     let second = third .before .before in
     let first = second .before .before in
-    simp (sym (first .before .empty-panel .ensures) ∙ first .if1 .left, sym (second .before .oversized-panel .ensures) ∙ second .if2 .left, sym (third .before .swing-refused .ensures) ∙ third .if3 .left, sym (c .before .period-refused .ensures) ∙ c .if4 .left)
+    simp (sym (first .before .empty-panel .ensures) ∙ first .if1 .left, sym (second .before .oversized-panel .ensures) ∙ second .if2 .left, sym (third .before .swing-refused .ensures) ∙ third .if3 .left, sym (fourth .before .period-refused .ensures) ∙ fourth .if4 .left, sym (c .before .clock-refused .ensures) ∙ c .if5 .taken)
+
+returns-6 : tie.Need-returns-6
+unfolding refusal
+returns-6 c =
+    let fourth = c .before .before in
+    let third = fourth .before .before in
+    let second = third .before .before in
+    let first = second .before .before in
+    simp (sym (first .before .empty-panel .ensures) ∙ first .if1 .left, sym (second .before .oversized-panel .ensures) ∙ second .if2 .left, sym (third .before .swing-refused .ensures) ∙ third .if3 .left, sym (fourth .before .period-refused .ensures) ∙ fourth .if4 .left, sym (c .before .clock-refused .ensures) ∙ c .if5 .left)
 
 pub validate-spec : {M : Type 1} → statement M
 validate-spec =
@@ -50,4 +60,6 @@ validate-spec =
     returns-3
     (λ c κs. search needs)
     returns-4
-    returns-5)
+    (λ c κs. search needs)
+    returns-5
+    returns-6)

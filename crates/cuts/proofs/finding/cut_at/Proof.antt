@@ -1,6 +1,9 @@
 -- `cuts::finding::cut_at` meets its contract, number by number.
 use mathlib.Core.Path.{ap, _∙_}
-use Prim.Native.Nat.{ℕ, _-_, _/_}
+use Prim.Native.Nat.{ℕ}
+use Rattle.controller.specs.Setters.{withNow}
+use Rattle.controller.specs.Refresh.{elapsed}
+use Rattle.controller.specs.Counting.{own}
 use Rattle.cuts.specs.declared.finding.Cut.{Cut}
 use Rattle.cuts.specs.Cuts.{cutAt}
 use borrow.Author.Needs.{needs}
@@ -16,8 +19,8 @@ returns c =
     let start = clock .before .before in
     let p = start .args .p in
     let at = clock .greatest .ensures in
-    let elapsed = whole .whole-frames .ensures ∙ ap (λ (n : ℕ). (n - p .operation .started) / p .waveform .«frame_ns») at in
-    (λ i. record { at = at i; frames = elapsed i; of = all .frames .ensures i })
+    let frames = whole .elapsed .ensures ∙ ap (λ (n : ℕ). elapsed own (withNow n p)) at in
+    (λ i. record { at = at i; frames = frames i; of = all .frames .ensures i })
 
 pub cut-at-spec : {M : Type 1} → statement M
 cut-at-spec =

@@ -1,4 +1,4 @@
--- `differences::parts::config_part` meets its contract: the first byte that differs, or nothing.
+-- `differences::parts::config_part` meets its contract: the first byte that differs, or the rates.
 use mathlib.Core.Path.{sym, ap, _∙_}
 use Rattle.text.proofs.Filling.{puts-as}
 use Rattle.differences.specs.declared.places.Place.{Place}
@@ -16,18 +16,20 @@ returns c =
     let start = find .before .before .before .before in
     let a = start .args in
     puts-as (said .config-line .ensures)
-    (ap (λ (p : Place). configBy p (a .a .now) (a .b .now)) (sym (arm .place .given .1) ∙ find .first-byte .ensures))
+    (ap (λ (p : Place). configBy p (a .a .now) (a .b .now) (a .rate-a) (a .rate-b))
+    (sym (arm .place .given .1) ∙ find .first-byte .ensures))
 
 returns-2 : tie.Need-returns-2
 unfolding configPart
 returns-2 c =
     let said = c .before .before in
-    let arm = said .before .before .before in
+    let arm = said .before .before in
     let find = arm .before .before in
     let start = find .before .before .before .before in
     let a = start .args in
-    puts-as (said .put .ensures)
-    (ap (λ (p : Place). configBy p (a .a .now) (a .b .now)) (sym (arm .enum-told .given .1) ∙ find .first-byte .ensures))
+    puts-as (said .rate-part .ensures)
+    (ap (λ (p : Place). configBy p (a .a .now) (a .b .now) (a .rate-a) (a .rate-b))
+    (sym (arm .enum-told .given .1) ∙ find .first-byte .ensures))
 
 pub config-part-spec : {M : Type 1} → statement M
 config-part-spec =
@@ -36,7 +38,6 @@ config-part-spec =
     (λ c κs. search needs)
     (λ c. search needs)
     (λ c κs. search needs)
-    (λ c. search needs)
     (λ c. search needs)
     (λ c κs. search needs)
     (λ c. search needs)

@@ -1,5 +1,6 @@
 -- `reasons::finding::reason` meets its contract: the tests in turn; 10 × count is below 2^36, so it is exact.
-use borrow.Author.Tests.{lt-ltb, le-ltb, eq-eqb, ne-eqb}
+use mathlib.Core.Path.{sym, _∙_}
+use borrow.Author.Tests.{lt-ltb, le-ltb, eq-eqb, ne-eqb, not-true, not-false}
 use Rattle.reasons.specs.Reasons.{reasonOf}
 use Rattle.reasons.proofs.WordLaws.{is-offset, is-count}
 use borrow.Author.Needs.{needs}
@@ -27,14 +28,15 @@ returns-3 c =
 returns-4 : tie.Need-returns-4
 unfolding reasonOf
 returns-4 c =
-    let count = c .before .before in
+    let told = c .before in
+    let count = told .before .before in
     let offset = count .before in
     let long = offset .before in
     let f = long .before .before .before .args .file .now in
     rw (← is-offset f _ (offset .word .ensures), ← is-count f _ (count .word2 .ensures))
     (simp (
-      ne-eqb _ _ (c .if4 .taken),
-      eq-eqb _ _ (c .before .if3 .left),
+      sym (told .length-fits .ensures) ∙ not-true _ (c .if4 .taken),
+      eq-eqb _ _ (told .before .if3 .left),
       le-ltb _ _ (long .if2 .left),
       le-ltb _ _ (long .before .if1 .left),
     ))
@@ -42,14 +44,15 @@ returns-4 c =
 returns-5 : tie.Need-returns-5
 unfolding reasonOf
 returns-5 c =
-    let count = c .before .before .before in
+    let told = c .before .before in
+    let count = told .before .before in
     let offset = count .before in
     let long = offset .before in
     let f = long .before .before .before .args .file .now in
     rw (← is-offset f _ (offset .word .ensures), ← is-count f _ (count .word2 .ensures))
     (simp (
-      eq-eqb _ _ (c .before .if4 .left),
-      eq-eqb _ _ (c .before .before .if3 .left),
+      sym (told .length-fits .ensures) ∙ not-false _ (c .before .if4 .left),
+      eq-eqb _ _ (told .before .if3 .left),
       le-ltb _ _ (long .if2 .left),
       le-ltb _ _ (long .before .if1 .left),
     )
@@ -69,8 +72,7 @@ reason-spec =
     (λ c. search needs)
     (λ c. search needs)
     returns-3
-    (λ c. search needs)
-    (λ c. search needs)
+    (λ c κs. search needs)
     returns-4
     (λ c κs. search needs)
     returns-5)

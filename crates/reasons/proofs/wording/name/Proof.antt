@@ -56,14 +56,20 @@ unfolding nameOf
 returns-12 c = puts-as (c .before .before .put12 .ensures) (sym (ap nameOf (c .before .before .before .before .before .match .keys12)))
 
 returns-13 : tie.Need-returns-13
-returns-13 c =
+unfolding nameOf
+returns-13 c = puts-as (c .before .before .put13 .ensures) (sym (ap nameOf (c .before .before .before .before .before .match .keys13)))
+
+returns-14 : tie.Need-returns-14
+returns-14 c =
     let arm = c .before .before .before .before .before in
-    puts-as (c .before .before .put13 .ensures) (unnamed (arm .before .before .args .number) (arm .match .rest))
+    puts-as (c .before .before .put14 .ensures) (unnamed (arm .before .before .args .number) (arm .match .rest))
 
 pub name-spec : {M : Type 1} → statement M
 name-spec =
     tie.close
     (tie.spec
+    (λ c. search needs)
+    (λ c κs. search needs)
     (λ c. search needs)
     (λ c κs. search needs)
     (λ c. search needs)
@@ -115,4 +121,6 @@ name-spec =
     (λ c. search needs)
     returns-12
     (λ c. search needs)
-    returns-13)
+    returns-13
+    (λ c. search needs)
+    returns-14)

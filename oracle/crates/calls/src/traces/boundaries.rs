@@ -1,10 +1,13 @@
 //! Short waveforms, and for each frame boundary a reset one before it, at it and one after it,
-//! each of a refresh of its own; and refreshes whose end is held at the last nanosecond.
+//! each of a refresh of its own; and refreshes whose end is held at the last cycle.
 
 use oracle::capture::Capture;
 use oracle::generate::bench::{Bench, Panel};
 use oracle::generate::panel::{USUAL_MILLIVOLTS, matched};
+use oracle::generate::rate::Board;
 use oracle::rng::Rng;
+
+use super::on;
 
 const FIRST_TABLE: u8 = 0x20;
 /// Frames that follow the longest table.
@@ -98,8 +101,8 @@ fn settle(bench: &mut Bench) {
     }
 }
 
-/// A refresh that a reset cuts, or follows, so many nanoseconds after its start; none if that is
-/// more than one nanosecond past its end.
+/// A refresh that a reset cuts, or follows, so many cycles after its start; none if that is more
+/// than one cycle past its end.
 fn cut_after(bench: &mut Bench, tables: &Tables, elapsed: u64) -> Option<()> {
     begin(bench, tables);
     let start = bench.now();
@@ -112,22 +115,29 @@ fn cut_after(bench: &mut Bench, tables: &Tables, elapsed: u64) -> Option<()> {
     within.then_some(())
 }
 
-/// One before, at, and one after the boundary of so many frames.
-fn around(bench: &mut Bench, tables: &Tables, frames: u64) -> Option<()> {
-    let boundary = frames * bench.period();
+/// One before, at, and one after the boundary of so many frames; the frames of the next boundary
+/// that has a cycle of its own.
+fn around(bench: &mut Bench, tables: &Tables, frames: u64) -> Option<u64> {
+    let period = bench.period();
+    let boundary = bench.board.cycles(frames * period);
     for elapsed in boundary.saturating_sub(1)..=boundary + 1 {
         cut_after(bench, tables, elapsed)?;
     }
-    Some(())
+    Some(bench.board.nanos(boundary) / period + 1)
 }
 
 /// Every boundary of a short waveform, start and end included.
-pub fn each(rng: Rng) -> Capture {
-    let mut bench = Bench::long(panel(rng));
+pub fn each(rng: Rng, board: Option<Board>) -> Capture {
+    let panel = panel(rng);
+    let start = panel.start;
+    let mut bench = Bench::long(Panel {
+        start,
+        ..on(board, panel)
+    });
     let tables = tables(&mut bench.rng);
     let mut frames = 0;
-    while around(&mut bench, &tables, frames).is_some() {
-        frames += 1;
+    while let Some(next) = around(&mut bench, &tables, frames) {
+        frames = next;
     }
     bench.capture()
 }
@@ -142,20 +152,23 @@ pub fn some(rng: Rng) -> Capture {
 }
 
 /// A refresh that begins so late that its end is held, whole or cut beside a boundary.
-pub fn held(rng: Rng) -> Capture {
+pub fn held(rng: Rng, board: Option<Board>) -> Capture {
     let mut panel = panel(rng);
     let tables = tables(&mut panel.rng);
-    let period = panel.configuration.periods[0];
-    let frames = panel.rng.below(8);
-    panel.start = u64::MAX - (frames * period + panel.rng.below(3));
+    panel = on(board, panel);
     panel.configuration.power_on = 0;
     let mut bench = Bench::long(panel);
+    let period = bench.period();
+    let frames = bench.rng.below(8);
+    let left = bench.board.cycles(frames * period);
+    bench.clock = u64::MAX - (left + bench.rng.below(3));
     begin(&mut bench, &tables);
     match bench.rng.below(4) {
         0 => bench.advance_to(u64::MAX),
         1 => bench.advance_to(u64::MAX - 1),
         _ => {
-            let elapsed = bench.rng.below(frames + 1) * period + bench.rng.below(3);
+            let whole = bench.rng.below(frames + 1) * period;
+            let elapsed = bench.board.cycles(whole) + bench.rng.below(3);
             bench.clock = bench.now().saturating_add(elapsed.saturating_sub(1));
         }
     }

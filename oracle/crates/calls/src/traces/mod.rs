@@ -6,7 +6,8 @@ mod pages;
 mod panels;
 
 use oracle::capture::Capture;
-use oracle::generate::bench::Bench;
+use oracle::generate::bench::{Bench, Panel};
+use oracle::generate::rate::{self, Board};
 use oracle::generate::{self, hostile};
 use oracle::rng::Rng;
 
@@ -45,36 +46,44 @@ pub fn make(seed: u64) -> Trace {
     };
     Trace {
         name: NAMES[name],
-        capture: capture(name, rng),
+        capture: capture(name, rng, rate::board(seed)),
     }
 }
 
-fn capture(name: usize, mut rng: Rng) -> Capture {
+fn capture(name: usize, mut rng: Rng, board: Option<Board>) -> Capture {
     match name {
-        0 => generated(&mut rng),
-        1 => boundaries::each(rng),
-        2 => boundaries::held(rng),
-        3 => pages::refreshes(small(rng)),
-        4 => pages::turns(small(rng)),
-        5 => hostile(small(rng)),
-        6 => pages::counts(small(rng)),
+        0 => generated(&mut rng, generate::make),
+        1 => boundaries::each(rng, board),
+        2 => boundaries::held(rng, board),
+        3 => pages::refreshes(small(rng, board)),
+        4 => pages::turns(small(rng, board)),
+        5 => hostile(small(rng, board)),
+        6 => pages::counts(small(rng, board)),
         7 => {
             let size = panels::large(&mut rng);
-            pages::whole(Bench::long(panels::of_size(rng, size)))
+            pages::whole(Bench::long(on(board, panels::of_size(rng, size))))
         }
-        _ => pages::whole(Bench::long(panels::x3(rng))),
+        _ => pages::whole(Bench::long(on(board, panels::x3(rng)))),
     }
 }
 
-fn small(mut rng: Rng) -> Bench {
+/// The panel on its board, which may have a rate.
+fn on(board: Option<Board>, panel: Panel) -> Panel {
+    match board {
+        None => panel,
+        Some(mut board) => board.with(panel),
+    }
+}
+
+fn small(mut rng: Rng, board: Option<Board>) -> Bench {
     let size = panels::small(&mut rng);
-    Bench::long(panels::of_size(rng, size))
+    Bench::long(on(board, panels::of_size(rng, size)))
 }
 
 /// A capture of the generator whose file can be read; its making may be refused.
-fn generated(rng: &mut Rng) -> Capture {
+fn generated(rng: &mut Rng, make: fn(u64) -> Vec<u8>) -> Capture {
     loop {
-        if let Ok(capture) = Capture::read(&generate::make(rng.any())) {
+        if let Ok(capture) = Capture::read(&make(rng.any())) {
             return capture;
         }
     }
@@ -88,20 +97,20 @@ fn hostile(mut bench: Bench) -> Capture {
     }
 }
 
-/// A trace on a small panel with more rows than are kept.
+/// A trace on a small panel with more rows than are kept; no rate.
 pub fn crowded(seed: u64) -> Capture {
-    hostile::flood(small(Rng::new(seed)))
+    hostile::flood(small(Rng::new(seed), None))
 }
 
-/// A trace that is often short, of one kind after the other.
+/// A trace that is often short, of one kind after the other; no rate.
 pub fn short(seed: u64) -> Capture {
     let mut rng = Rng::new(seed);
     match seed % 7 {
         0 => boundaries::some(rng),
-        1 => boundaries::held(rng),
-        2 => pages::few_refreshes(small(rng)),
-        3 => hostile::storm(small(rng)),
-        4 => pages::questions(small(rng)),
-        _ => generated(&mut rng),
+        1 => boundaries::held(rng, None),
+        2 => pages::few_refreshes(small(rng, None)),
+        3 => hostile::storm(small(rng, None)),
+        4 => pages::questions(small(rng, None)),
+        _ => generated(&mut rng, generate::plain),
     }
 }

@@ -152,7 +152,7 @@ fn written_out(answer: Answer) -> Result<Vec<Event>, u8> {
         .collect())
 }
 
-/// The 312 bytes of a configuration.
+/// The 312 bytes of a configuration, or 320 with a rate.
 pub fn bytes(configuration: &Configuration) -> Vec<u8> {
     let mut file = Script::new(configuration.clone()).file();
     file.truncate(file.len() - TRAILER_BYTES);

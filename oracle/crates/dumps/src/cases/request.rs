@@ -419,6 +419,10 @@ pub fn configurations() -> Vec<Case> {
     let eight = "8: configuration bytes of a wrong length, tested first";
     let after = "after 12 come 9 and 1 to 4";
     let sound = bytes(&example_panel());
+    let rated = Configuration {
+        rate: Some(1_000_000_000),
+        ..example_panel()
+    };
     let mut long = sound.clone();
     long.push(0);
     let bad = panel(|of| (of.variant, of.sources) = (2, 0));
@@ -432,7 +436,7 @@ pub fn configurations() -> Vec<Case> {
         with("config-empty", eight, Vec::new(), 8),
         with("config-311", eight, sound[..311].to_vec(), 8),
         with("config-313", eight, long, 8),
-        with("config-320", eight, [&sound[..], &[0; 8]].concat(), 8),
+        with("config-320", eight, bytes(&rated), 8),
         dump(
             with("config-311-dump-malformed", eight, bad[..311].to_vec(), 8),
             &broken,

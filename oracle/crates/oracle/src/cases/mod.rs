@@ -1,6 +1,7 @@
 //! `oracle cases` and `oracle check`: small captures with the output each must give.
 
 mod commands;
+mod rates;
 mod refreshes;
 mod refusals;
 
@@ -15,21 +16,21 @@ use crate::script::{Script, example_panel};
 pub struct Case {
     pub name: &'static str,
     /// One line for the index.
-    shows: &'static str,
+    shows: String,
     pub file: Vec<u8>,
     /// The output as a paper has it or as worked by hand; without one it is the published Rust's.
     output: Option<String>,
 }
 
 impl Case {
-    fn new(name: &'static str, shows: &'static str, script: Script) -> Case {
+    fn new(name: &'static str, shows: impl Into<String>, script: Script) -> Case {
         Case::of_file(name, shows, script.file())
     }
 
-    fn of_file(name: &'static str, shows: &'static str, file: Vec<u8>) -> Case {
+    fn of_file(name: &'static str, shows: impl Into<String>, file: Vec<u8>) -> Case {
         Case {
             name,
-            shows,
+            shows: shows.into(),
             file,
             output: None,
         }
@@ -72,6 +73,7 @@ pub fn all() -> Vec<Case> {
     cases.extend(refreshes::cases());
     cases.extend(commands::cases());
     cases.extend(refusals::cases());
+    cases.extend(rates::cases());
     cases
 }
 

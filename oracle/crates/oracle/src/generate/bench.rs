@@ -1,9 +1,9 @@
 //! A capture under construction, with the published chip running beside it.
 
-use chips::lines::ONE_GIGAHERTZ;
 use chips::uc8253::Uc8253;
 
-use crate::capture::{self, Capture, Configuration, Event, MOST_EVENTS};
+use crate::capture::{self, Capture, Configuration, Event};
+use crate::clock::Clock;
 use crate::rng::Rng;
 use crate::run;
 
@@ -29,6 +29,8 @@ pub struct Area {
 pub struct Bench {
     pub rng: Rng,
     pub configuration: Configuration,
+    /// The board's clock.
+    pub board: Clock,
     pub frames: u64,
     /// The time of the next event.
     pub clock: u64,
@@ -56,16 +58,17 @@ impl Bench {
     /// A run whose capture the program takes.
     pub fn new(panel: Panel) -> Bench {
         Bench {
-            most: MOST_EVENTS,
+            most: panel.configuration.most_events(),
             ..Bench::long(panel)
         }
     }
 
     /// A run of any length, on a panel of any size.
     pub fn long(panel: Panel) -> Bench {
-        let chip = Uc8253::new(panel.configuration.chip(), ONE_GIGAHERTZ)
-            .expect("a panel is made to be in range");
+        let in_range = "a panel is made to be in range";
+        let chip = run::make_any(&panel.configuration).expect(in_range);
         Bench {
+            board: panel.configuration.clock().expect(in_range),
             rng: panel.rng,
             configuration: panel.configuration,
             frames: panel.frames,
@@ -81,8 +84,8 @@ impl Bench {
         }
     }
 
-    pub fn count(&self) -> usize {
-        self.events.len()
+    pub fn has_room(&self) -> bool {
+        self.events.len() < self.most
     }
 
     pub fn capture(self) -> Capture {

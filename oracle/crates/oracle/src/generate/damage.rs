@@ -1,29 +1,46 @@
 //! Damaged files: one fault or two, so that every refusal and the order of refusals is seen.
 
 use crate::capture::{
-    Capture, Configuration, EVENT_BYTES, Event, MOST_BYTES, MOST_EVENTS, TAIL_BYTES,
+    Capture, Configuration, EVENT_BYTES, Event, MOST_BYTES, TAIL_BYTES, TRAILER_BYTES,
 };
 use crate::refusal::Refusal;
 use crate::rng::Rng;
 
 use super::bench::Bench;
-use super::{panel, reader};
+use super::rate::{self, Board};
+use super::reader;
 
 const LONGEST_SOUND: usize = 60;
 
-/// A short accepted capture with one fault or two different ones.
-pub fn damaged(rng: Rng) -> Vec<u8> {
-    let mut bench = Bench::new(panel::matched(rng));
+/// The faults of a capture with or without a rate.
+const OF_ANY: [Refusal; 7] = [
+    Refusal::BrokenCapture,
+    Refusal::BadEvent,
+    Refusal::EmptyPanel,
+    Refusal::OversizedPanel,
+    Refusal::Swing,
+    Refusal::FramePeriod,
+    Refusal::TooManyPixels,
+];
+
+/// A short accepted capture with one fault or two different ones; with a rate, often that.
+pub fn damaged(mut bench: Bench, board: Option<Board>) -> Vec<u8> {
     reader::turns(&mut bench);
     let mut rng = Rng::new(bench.rng.any());
     let mut capture = bench.capture();
     capture
         .events
         .truncate(rng.between(1, LONGEST_SOUND as u64) as usize);
-    let first = rng.pick(&Refusal::IN_ORDER);
+    let first = rng.pick(&OF_ANY);
     let mut faults = vec![first];
     if rng.chance(45) {
-        faults.push(rng.pick(&Refusal::IN_ORDER));
+        faults.push(rng.pick(&OF_ANY));
+    }
+    if let Some(mut board) = board
+        && board.rng.chance(50)
+    {
+        faults.truncate(board.rng.below(2) as usize);
+        faults.push(Refusal::Rate);
     }
     for &fault in &faults {
         damage(&mut rng, &mut capture, fault);
@@ -54,6 +71,7 @@ fn damage(rng: &mut Rng, capture: &mut Capture, fault: Refusal) {
         Refusal::FramePeriod => of.periods[rng.below(32) as usize] = 0,
         Refusal::TooManyPixels => crowd(rng, of),
         Refusal::BadEvent => bad_event(rng, capture),
+        Refusal::Rate => of.rate = Some(rng.pick(&rate::REFUSED)),
         Refusal::BrokenCapture => {}
     }
 }
@@ -83,8 +101,9 @@ fn bad_event(rng: &mut Rng, capture: &mut Capture) {
 
 /// `file`, the bytes of `capture`, broken.
 fn broken(rng: &mut Rng, capture: &Capture, mut file: Vec<u8>) -> Vec<u8> {
-    let trailer = file.len() - 8;
+    let trailer = file.len() - TRAILER_BYTES;
     match rng.below(10) {
+        0 if capture.configuration.rate.is_some() && rng.chance(50) => half_rate(&mut file),
         0 => file.truncate(rng.below(file.len() as u64) as usize),
         1 => file.truncate(rng.below(TAIL_BYTES as u64) as usize),
         2 => file.extend([0].repeat(rng.between(1, 20) as usize)),
@@ -104,17 +123,25 @@ fn broken(rng: &mut Rng, capture: &Capture, mut file: Vec<u8>) -> Vec<u8> {
 /// Offset 4 and a count whose tenfold is 4 modulo 2^32.
 fn wrapped(capture: &Capture) -> Vec<u8> {
     let sound = capture.encode();
+    let tail = capture.configuration.tail_bytes();
     let mut file = vec![0; 4];
-    file.extend(&sound[sound.len() - TAIL_BYTES..sound.len() - 8]);
+    file.extend(&sound[sound.len() - tail..sound.len() - TRAILER_BYTES]);
     file.extend(4_u32.to_le_bytes());
     file.extend(429_496_730_u32.to_le_bytes());
     file
 }
 
-/// A sound file but for its length: 6,522 events.
+/// Half of the rate is lost: the offset and 324 bytes.
+fn half_rate(file: &mut Vec<u8>) {
+    let trailer = file.len() - TRAILER_BYTES;
+    file.drain(trailer - 4..trailer);
+}
+
+/// A sound file but for its length: 6,522 events, with a rate 6,521.
 fn one_too_many(capture: &Capture) -> Vec<u8> {
     let mut crowded = capture.clone();
     let last = capture.events[capture.events.len() - 1];
-    crowded.events.resize(MOST_EVENTS + 1, last);
+    let most = capture.configuration.most_events();
+    crowded.events.resize(most + 1, last);
     crowded.encode()
 }

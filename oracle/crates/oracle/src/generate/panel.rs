@@ -85,6 +85,7 @@ fn base(rng: &mut Rng) -> Configuration {
         soft_reset: usual_time(rng),
         hardware_reset: usual_time(rng),
         periods: [1; 32],
+        rate: None,
     }
 }
 

@@ -105,7 +105,12 @@ fn turn(bench: &mut Bench) {
     if bench.rng.chance(15) {
         while_busy(bench);
     }
-    if bench.rng.chance(12) {
+    let cuts = if bench.configuration.rate.is_some() {
+        30
+    } else {
+        12
+    };
+    if bench.rng.chance(cuts) {
         cut(bench);
         recover(bench);
     } else {
@@ -207,13 +212,14 @@ fn while_busy(bench: &mut Bench) {
     bench.reads(reads);
 }
 
-/// A reset at some nanosecond of the running refresh, often on a frame boundary or beside it.
+/// A reset at some cycle of the running refresh, often on a frame boundary or beside it.
 pub fn cut(bench: &mut Bench) {
     let now = bench.now();
     let end = bench.deadline().unwrap_or(now).max(now);
     let period = bench.period();
-    let frame = bench.rng.between(0, (end - now) / period);
-    let boundary = now.saturating_add(frame.saturating_mul(period));
+    let board = bench.board;
+    let frame = bench.rng.between(0, board.nanos(end - now) / period);
+    let boundary = now.saturating_add(board.cycles(frame * period));
     let time = match bench.rng.below(10) {
         0..=2 => boundary,
         3..=4 => boundary.saturating_sub(1),

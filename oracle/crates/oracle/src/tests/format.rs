@@ -1,6 +1,6 @@
 //! The capture file: its ends and the order of refusals.
 
-use crate::capture::{Capture, MOST_EVENTS};
+use crate::capture::{Capture, Configuration, MOST_EVENTS, MOST_RATED_EVENTS};
 use crate::cases;
 use crate::refusal::Refusal;
 use crate::run;
@@ -30,10 +30,53 @@ fn six_thousand_five_hundred_and_twenty_one_events_fit() {
     assert_eq!(refusal(&script(6_522).file()), Some(8));
 }
 
+fn rated(rate: u64) -> Configuration {
+    Configuration {
+        rate: Some(rate),
+        ..example_panel()
+    }
+}
+
+#[test]
+fn with_a_rate_one_event_fewer_fits() {
+    let file = |count: usize| {
+        let script = (0..count).fold(Script::new(rated(7)), |script, _| script.advance());
+        script.file()
+    };
+    assert_eq!(MOST_RATED_EVENTS, 6_520);
+    assert_eq!(file(6_520).len(), 65_528);
+    assert_eq!(refusal(&file(6_520)), None);
+    assert_eq!(file(6_521).len(), 65_538);
+    assert_eq!(refusal(&file(6_521)), Some(8));
+}
+
 #[test]
 fn a_file_is_read_back_as_written() {
     let capture = cases::example().capture().clone();
-    assert_eq!(Capture::read(&capture.encode()), Ok(capture));
+    assert_eq!(Capture::read(&capture.encode()), Ok(capture.clone()));
+    for rate in [0, 1, 1_000_000_000, u64::MAX] {
+        let capture = Capture {
+            configuration: rated(rate),
+            ..capture.clone()
+        };
+        assert_eq!(Capture::read(&capture.encode()), Ok(capture));
+    }
+}
+
+/// Of all tails just those of 320 and of 328 bytes are whole, whatever stands in them.
+#[test]
+fn two_lengths_are_whole() {
+    for events in [0, 1, 14] {
+        let count = 10 * events;
+        for tail in 8..400_usize {
+            let mut file = vec![0; count + tail];
+            let trailer = file.len() - 8;
+            file[trailer] = count as u8;
+            file[trailer + 4] = events as u8;
+            let whole = Capture::is_whole(&file);
+            assert_eq!(whole, [320, 328].contains(&tail), "{events} and {tail}");
+        }
+    }
 }
 
 #[test]
@@ -76,11 +119,13 @@ fn refusals_come_in_the_order_of_the_paper() {
     let mut panel = example_panel();
     (panel.sources, panel.gates) = (800, 600);
     let mut answers = Vec::new();
-    let mut ask = |panel: &crate::capture::Configuration, kind: u8, extra: &[u8]| {
+    let mut ask = |panel: &Configuration, kind: u8, extra: &[u8]| {
         let mut file = Script::new(panel.clone()).event(kind, 0).file();
         file.extend(extra);
         answers.push(refusal(&file).unwrap_or(0));
     };
+    ask(&panel, 5, &[]);
+    panel.rate = Some(0);
     ask(&panel, 5, &[]);
     panel.periods[7] = 0;
     ask(&panel, 5, &[]);
@@ -92,5 +137,5 @@ fn refusals_come_in_the_order_of_the_paper() {
     ask(&panel, 5, &[]);
     ask(&panel, 6, &[]);
     ask(&panel, 6, &[0]);
-    assert_eq!(answers, [10, 4, 3, 2, 1, 9, 8]);
+    assert_eq!(answers, [10, 13, 4, 3, 2, 1, 9, 8]);
 }

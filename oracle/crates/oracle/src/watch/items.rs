@@ -2,6 +2,8 @@
 
 /// Seen in refused files, where no chip runs.
 pub const ONE_EVENT_TOO_MANY: &str = "6,522 events (refused)";
+pub const ONE_RATED_EVENT_TOO_MANY: &str = "6,521 events and a rate (refused)";
+pub const HALF_A_RATE: &str = "offset + 324 bytes (refused)";
 pub const ONE_PIXEL_TOO_MANY: &str = "panel of 8,001 pixels (refused)";
 pub const WRAPPING_COUNT: &str = "10 times the count wraps to the offset at 32 bits (refused)";
 
@@ -9,7 +11,10 @@ pub const WRAPPING_COUNT: &str = "10 times the count wraps to the offset at 32 b
 pub const ITEMS: &[&str] = &[
     "no events",
     "6,521 events",
+    "6,520 events and a rate",
     ONE_EVENT_TOO_MANY,
+    ONE_RATED_EVENT_TOO_MANY,
+    HALF_A_RATE,
     WRAPPING_COUNT,
     "panel of 1 by 1",
     "panel of 8,000 pixels",
@@ -38,8 +43,8 @@ pub const ITEMS: &[&str] = &[
     "power on ended",
     "power off ended",
     "event at an operation's end",
-    "event 1 ns before an operation's end",
-    "event 1 ns after an operation's end",
+    "event 1 cycle before an operation's end",
+    "event 1 cycle after an operation's end",
     "clock goes back",
     "time above 2^63",
     "time 2^64 - 1",
@@ -88,18 +93,21 @@ pub const ITEMS: &[&str] = &[
     "refresh with a table ended by counts 0",
     "refresh with all tables empty",
     "refresh of 65,025 frames or more",
+    "refresh of one cycle",
+    "refresh that lasts no whole number of cycles",
+    "refresh with a frame or more to a cycle, of several cycles",
     "refresh with period 1",
     "refresh with period 2^64 - 1",
     "refresh with swing 1",
     "refresh with swing 2^63 - 1",
     "cut on a frame boundary",
-    "cut 1 ns before a frame boundary",
-    "cut 1 ns after a frame boundary",
+    "cut 1 cycle before a frame boundary",
+    "cut 1 cycle after a frame boundary",
     "cut elsewhere in a frame",
-    "cut in the nanosecond of the start",
-    "cut 1 ns before the end",
+    "cut in the cycle of the start",
+    "cut 1 cycle before the end",
     "cut after a frame was driven and before the last",
-    "reset in the nanosecond of the end",
+    "reset in the cycle of the end",
     "full picture",
     "partial picture",
     "picture with two greys or more",

@@ -5,13 +5,16 @@ mod refresh;
 
 use chips::uc8253::Uc8253;
 
-use crate::capture::{self, Capture, Configuration, Event, MOST_EVENTS};
+use crate::capture::{self, Capture, Configuration, Event};
 use crate::registers::Registers;
 use crate::rows;
 use crate::run;
 use crate::tally::Facts;
 
-pub use items::{FAMILIES, ITEMS, ONE_EVENT_TOO_MANY, ONE_PIXEL_TOO_MANY, WRAPPING_COUNT};
+pub use items::{
+    FAMILIES, HALF_A_RATE, ITEMS, ONE_EVENT_TOO_MANY, ONE_PIXEL_TOO_MANY, ONE_RATED_EVENT_TOO_MANY,
+    WRAPPING_COUNT,
+};
 use refresh::Running;
 
 const READS_TO_COUNT: usize = 3;
@@ -55,7 +58,7 @@ pub fn facts(capture: &Capture) -> Facts {
     let of = &capture.configuration;
     let mut watch = Watch {
         of,
-        chip: run::make(of).expect("the capture is accepted"),
+        chip: run::make_any(of).expect("the capture is accepted"),
         facts: Facts::default(),
         registers: Registers::reset(of.variant),
         sent: None,
@@ -83,7 +86,14 @@ impl Watch<'_> {
     fn file(&mut self, capture: &Capture) {
         let (of, facts) = (self.of, &mut self.facts);
         facts.note_if(capture.events.is_empty(), "no events");
-        facts.note_if(capture.events.len() == MOST_EVENTS, "6,521 events");
+        let is_full = capture.events.len() == of.most_events();
+        facts.note_if(
+            is_full,
+            match of.rate {
+                None => "6,521 events",
+                Some(_) => "6,520 events and a rate",
+            },
+        );
         facts.note_if(of.pixels() == 1, "panel of 1 by 1");
         facts.note_if(of.pixels() == run::MOST_PIXELS, "panel of 8,000 pixels");
         facts.note_if(of.full_swing == 1, "swing 1");
@@ -134,12 +144,12 @@ impl Watch<'_> {
             let time = event.time.max(self.clock);
             facts.note_if(time == end, "event at an operation's end");
             let before = time.checked_add(1) == Some(end);
-            facts.note_if(before, "event 1 ns before an operation's end");
+            facts.note_if(before, "event 1 cycle before an operation's end");
             let after = end.checked_add(1) == Some(time);
-            facts.note_if(after, "event 1 ns after an operation's end");
+            facts.note_if(after, "event 1 cycle after an operation's end");
             let resets = event.kind == capture::RESET && event.value == 1;
             let both = resets && time == end && self.running.is_some();
-            facts.note_if(both, "reset in the nanosecond of the end");
+            facts.note_if(both, "reset in the cycle of the end");
         }
         self.clock = self.clock.max(event.time);
     }
@@ -178,21 +188,14 @@ impl Watch<'_> {
         self.facts.note_if(partial, "partial picture");
         self.facts.note_if(!partial, "full picture");
         if image.interrupted {
-            self.facts.cut += 1;
             self.facts.cut_with_change |= changed;
         } else {
-            self.facts.ended += 1;
             self.facts.ended_with_change |= changed;
             self.copied |= self.registers.copies_new_to_old();
         }
-        if let Some(running) = self.running.take() {
-            running.ended(
-                &mut self.facts,
-                image.interrupted,
-                image.at.get(),
-                self.clock,
-            );
-        }
+        let running = self.running.take().expect("a refresh ran");
+        let (interrupted, at) = (image.interrupted, image.at.get());
+        running.ended(&mut self.facts, interrupted, at, self.clock);
     }
 
     fn command(&mut self, command: u8, kinds: &[u64]) {

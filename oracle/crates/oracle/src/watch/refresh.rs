@@ -1,15 +1,19 @@
 //! What a refresh covers: its settings at the start, and where it ended or was cut.
 
 use crate::capture::{self, Configuration};
+use crate::clock::Clock;
 use crate::registers::Registers;
-use crate::tally::Facts;
+use crate::tally::{Cut, Facts};
 
 /// The largest start or resolution that 61 and 65 can hold.
 const MOST_COLUMN: u16 = 1_016;
 const MOST_ROW: u16 = 1_023;
 const LONG: u64 = 255 * 255;
+/// Frames that follow the longest table.
+const TAIL_FRAMES: u64 = 2;
 
 pub struct Running {
+    board: Clock,
     start: u64,
     end: u64,
     period: u64,
@@ -19,21 +23,40 @@ pub struct Running {
 impl Running {
     pub fn new(of: &Configuration, registers: &Registers, start: u64, end: u64) -> Running {
         let code = usize::from(registers.byte(0x30, 0) & 0x1F);
-        Running {
+        let running = Running {
+            board: of.clock().expect("the capture is accepted"),
             start,
             end,
             period: of.periods[code],
             frames: registers.longest_frames(),
-        }
+        };
+        let duration = running.board.cycles(running.duration());
+        assert_eq!(end, start.saturating_add(duration), "the Rust's deadline");
+        running
+    }
+
+    /// In nanoseconds, held.
+    fn duration(&self) -> u64 {
+        (self.frames + TAIL_FRAMES).saturating_mul(self.period)
     }
 
     fn is_held(&self) -> bool {
-        let duration = (self.frames + 2).checked_mul(self.period);
-        duration.and_then(|ns| self.start.checked_add(ns)) != Some(self.end)
+        let duration = (self.frames + TAIL_FRAMES).checked_mul(self.period);
+        let cycles = duration.map(|ns| self.board.cycles(ns));
+        cycles.and_then(|cycles| self.start.checked_add(cycles)) != Some(self.end)
     }
 
     pub fn started(&self, facts: &mut Facts, of: &Configuration, registers: &Registers) {
         facts.note_if(self.is_held(), "refresh's end held at 2^64 - 1");
+        let cycles = self.board.cycles(self.duration());
+        facts.note_if(cycles == 1, "refresh of one cycle");
+        let exact = self.board.nanos(cycles) == self.duration();
+        facts.note_if(!exact, "refresh that lasts no whole number of cycles");
+        let within = self.whole(1) > 0 && cycles > 1;
+        facts.note_if(
+            within,
+            "refresh with a frame or more to a cycle, of several cycles",
+        );
         facts.note_if(self.period == 1, "refresh with period 1");
         facts.note_if(self.period == u64::MAX, "refresh with period 2^64 - 1");
         facts.note_if(of.full_swing == 1, "refresh with swing 1");
@@ -57,26 +80,47 @@ impl Running {
     /// The refresh ended at `at`, by itself or `interrupted`; `clock` is the chip's.
     pub fn ended(&self, facts: &mut Facts, interrupted: bool, at: u64, clock: u64) {
         if !interrupted {
+            facts.ended += 1;
             return;
         }
         let elapsed = at - self.start;
-        let into = elapsed % self.period;
-        facts.note_if(elapsed == 0, "cut in the nanosecond of the start");
-        facts.note_if(clock + 1 == self.end, "cut 1 ns before the end");
-        let inner = elapsed >= self.period && elapsed / self.period < self.frames;
+        let frames = self.whole(elapsed);
+        let inner = frames > 0 && frames < self.frames;
+        facts.inner += u64::from(inner);
+        facts.cuts.push(Cut {
+            at,
+            frames,
+            of: self.frames + TAIL_FRAMES,
+        });
+        facts.note_if(elapsed == 0, "cut in the cycle of the start");
+        facts.note_if(clock + 1 == self.end, "cut 1 cycle before the end");
         facts.note_if(inner, "cut after a frame was driven and before the last");
-        // Shorter frames have no room for the three to differ.
-        if self.period < 3 {
-            return;
+        if let Some(item) = self.place(elapsed) {
+            facts.note(item);
         }
-        let item = match into {
-            0 if elapsed == 0 => return,
+    }
+
+    /// The whole frames after so many cycles.
+    fn whole(&self, cycles: u64) -> u64 {
+        self.board.nanos(cycles) / self.period
+    }
+
+    /// Where in a frame a cut after so many cycles lies.
+    fn place(&self, elapsed: u64) -> Option<&'static str> {
+        let frames = self.whole(elapsed);
+        let boundary = self.board.cycles(frames * self.period);
+        // In frames of fewer cycles the three do not differ.
+        if elapsed == 0 || self.whole(boundary.saturating_add(2)) > frames {
+            return None;
+        }
+        Some(match elapsed - boundary {
             0 => "cut on a frame boundary",
-            1 => "cut 1 ns after a frame boundary",
-            _ if into == self.period - 1 => "cut 1 ns before a frame boundary",
+            1 => "cut 1 cycle after a frame boundary",
+            _ if self.whole(elapsed.saturating_add(1)) > frames => {
+                "cut 1 cycle before a frame boundary"
+            }
             _ => "cut elsewhere in a frame",
-        };
-        facts.note(item);
+        })
     }
 }
 
