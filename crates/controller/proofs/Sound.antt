@@ -258,6 +258,10 @@ pub sound-reset : (asserted : Bool) (w : World) → Sound w → Sound (resetEdge
 unfolding resetEdge
 sound-reset asserted w s = sound-edge asserted w s
 
+-- ---- VCOM's rule
+pub sound-ruled : (x : Bool) (w : World) → Sound w → Sound (onChip (withVcomRule x) w)
+sound-ruled x w s = sound-mode _ w s
+
 -- ---- taking the rows
 pub sound-take : (w : World) → Sound w → Sound (takeCall w)
 unfolding takeCall

@@ -35,7 +35,7 @@ use Rattle.controller.specs.declared.Uc8253.{Uc8253}
 use Rattle.controller.specs.declared.reads.Read.{Read}
 use Rattle.controller.specs.declared.reads.Read.the-variants.{Byte, Nothing}
 use Rattle.controller.specs.World.{World, Buffers, world, onChip}
-use Rattle.controller.specs.Setters.{withCurrent}
+use Rattle.controller.specs.Setters.{withCurrent, modeOf}
 use Rattle.controller.specs.Tell.{tell}
 use Rattle.controller.specs.Arrives.{timed, rest, endedBy, ended, arrived}
 use Rattle.controller.specs.Command.{closed, barredNote, begun, executed, passed, commandByte}
@@ -88,7 +88,7 @@ empty-reset p e (suc (suc (suc (suc (suc k))))) = rw e
 record Rested (p : Uc8253) : Type 0 where
   chip : p .config .variant ≡ variant.Uc8279d
   rests : p .operation ≡ rest
-  mode : p .mode ≡ record { power = power.Running; powered = false; «data_flag» = false }
+  mode : p .mode ≡ modeOf power.Running false false (p .mode .«vcom_by_frame»)
   whole : p .regs .partial ≡ false
 
 abbrev identity : List ℕ
