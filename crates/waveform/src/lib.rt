@@ -76,6 +76,8 @@ pub struct Waveform {
     pub tables: [[Group; GROUPS]; LUTS],
     pub levels: Levels,
     pub frame_ns: u64,
+    // Rule 2: VCOM goes by its own frame counts, and not by the pixel's phases.
+    pub vcom_by_frame: bool,
 }
 
 impl Group {
@@ -372,13 +374,19 @@ pub fn whole_frames(ns: u64, period: u64) -> u64
 // The proofs of `of` and `tables` are walks by hand, by the laws of the crate `nested`; the rest goes
 // by these two.
 impl Waveform {
-    pub fn of(tables: [[Group; GROUPS]; LUTS], levels: Levels, frame_ns: u64) -> Waveform
-        ensures { λ r. ⌜ r ≡ record { tables = tables; levels = levels; «frame_ns» = «frame_ns» } ⌝ }
+    pub fn of(
+        tables: [[Group; GROUPS]; LUTS],
+        levels: Levels,
+        frame_ns: u64,
+        vcom_by_frame: bool,
+    ) -> Waveform
+        ensures { λ r. ⌜ r ≡ record { tables = tables; levels = levels; «frame_ns» = «frame_ns»; «vcom_by_frame» = «vcom_by_frame» } ⌝ }
     {
         Waveform {
             tables,
             levels,
             frame_ns,
+            vcom_by_frame,
         }
     }
 
@@ -388,11 +396,16 @@ impl Waveform {
         self.tables
     }
 
-    // The LUT registers decoded, for a refresh at these levels and this frame period.
-    pub fn new(luts: [[u8; LUT_BYTES]; LUTS], levels: Levels, frame_ns: u64) -> Waveform
-        ensures { λ r. ⌜ r ≡ waveformOf luts levels «frame_ns» ⌝ }
+    // The LUT registers decoded, for a refresh at these levels and this frame period, by this rule.
+    pub fn new(
+        luts: [[u8; LUT_BYTES]; LUTS],
+        levels: Levels,
+        frame_ns: u64,
+        vcom_by_frame: bool,
+    ) -> Waveform
+        ensures { λ r. ⌜ r ≡ waveformOf luts levels «frame_ns» «vcom_by_frame» ⌝ }
     {
-        Waveform::of(decode(luts), levels, frame_ns)
+        Waveform::of(decode(luts), levels, frame_ns, vcom_by_frame)
     }
 
     // The frames of the refresh: those of the longest of the five LUTs, then two of VCOM_DC.
