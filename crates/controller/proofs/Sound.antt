@@ -42,6 +42,7 @@ use Rattle.controller.specs.declared.uses.Use.{Use}
 use Rattle.controller.specs.declared.uses.Use.the-variants as use-for
 use Rattle.controller.specs.declared.reads.Read.{Read}
 use Rattle.controller.specs.declared.reads.Read.the-variants.{Byte, Nothing}
+use Rattle.controller.specs.Setters.{withVcomRule}
 use Rattle.controller.specs.World.{World, Buffers, world, onChip}
 use Rattle.controller.specs.Arrives.{timed, rest, endedBy, ended, arrived}
 use Rattle.controller.specs.Command.{closingNote, ignoring, closedBy, closed, barredNote, begun}
