@@ -18,23 +18,27 @@ use Rattle.waveform.specs.Tables.{sumOf, running, frameCount, tableFrame
 use Rattle.waveform.specs.Frames.{blank, driveOf, vcomCodes, tableFrames, codesOf, besideFrames, framesOf}
 use Rattle.waveform.proofs.BesideLaws.{beside-length}
 
--- in each round of a group, d p for the frames of phase p
+-- in a round of a group, d p for the frames of phase p
+abbrev pub laidRound : {A : Type 0} → Group → (ℕ → A) → List A
+laidRound g d = inTurn 4 (λ p. replicate (getD (g .frames) p 0) (d p))
+
+-- that in each round
 abbrev pub laidGroup : {A : Type 0} → Group → (ℕ → A) → List A
-laidGroup g d = inTurn (g .repeats) (λ i. inTurn 4 (λ p. replicate (getD (g .frames) p 0) (d p)))
+laidGroup g d = inTurn (g .repeats) (λ i. laidRound g d)
 
 -- group by group, d k in group k
 abbrev pub laid : {A : Type 0} → List Group → (ℕ → ℕ → A) → List A
 laid gs d = inTurn (length gs) (λ k. laidGroup (getD gs k blank) (d k))
 
 module _ {A : Type 0} where
+  pub round-length : (g : Group) (d : ℕ → A) → length (laidRound g d) ≡ sumOf (g .frames)
+  round-length g d = length-in-turn 4 (λ p. replicate (getD (g .frames) p 0) (d p)) ∙ simp length-replicate
+
   pub group-length : (g : Group) (d : ℕ → A) → length (laidGroup g d) ≡ g .repeats * sumOf (g .frames)
   group-length g d =
-      length-in-turn (g .repeats) (λ i. inTurn 4 (λ p. replicate (getD (g .frames) p 0) (d p)))
-      ∙ ap (λ (m : ℕ). sumTo (g .repeats) (λ k. m)) (round (g .frames) d)
+      length-in-turn (g .repeats) (λ i. laidRound g d)
+      ∙ ap (λ (m : ℕ). sumTo (g .repeats) (λ k. m)) (round-length g d)
       ∙ sum-equal (g .repeats) (sumOf (g .frames))
-    where
-      round : (frames : List ℕ) (d : ℕ → A) → length (inTurn 4 (λ p. replicate (getD frames p 0) (d p))) ≡ sumOf frames
-      round frames d = length-in-turn 4 (λ p. replicate (getD frames p 0) (d p)) ∙ simp length-replicate
 
   groups-length : (gs : List Group) (d : ℕ → ℕ → A) →
       sumTo (length gs) (λ k. length (laidGroup (getD gs k blank) (d k))) ≡ frameCount gs

@@ -5,4 +5,6 @@ pub mod BesideLaws
 pub mod FramesLaws
 pub mod PlaceLaws
 pub mod BesideProgress
+pub mod RuleLaws
+pub mod RuleExamples
 pub mod Elements
