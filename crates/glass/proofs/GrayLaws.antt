@@ -2,12 +2,13 @@
 use mathlib.Core.Path.{_≡_, sym, ap, _∙_}
 use Prim.Native.Nat.{ℕ, zero, suc, _+_, _-_, _*_, _/_, _%_, _^_, _≤_, _<_}
 use native.Mathlib.Nat.{zero-mul, mul-zero, mul-comm, mul-assoc, mul-add, add-mul, mul-left-comm, mul-le-mul-left, mul-le-mul-right}
-use native.Mathlib.Nat.{div-add-mod, div-lt-iff-lt-mul, le-div-iff-mul-le, div-div-eq-div-mul, pow-succ'}
+use native.Mathlib.Nat.{div-add-mod, div-lt-iff-lt-mul, le-div-iff-mul-le, div-div-eq-div-mul, div-eq-of-lt-le, pow-succ'}
 use native.Mathlib.Omega.{arith}
 use native.Mathlib.Decide.{decLe}
 use lib.Arith.{digits-div}
+use borrow.Author.Tests.{ne-eqb}
 use Rattle.glass.specs.declared.Sum.{Sum}
-use Rattle.glass.specs.Gray.{levelOf, grayAt, grayOf, leastOf}
+use Rattle.glass.specs.Gray.{levelOf, topOf, grayAt, grayOf, leastOf}
 use Rattle.glass.specs.InnerDivision.{Carried}
 
 -- ---- the level by a split quotient
@@ -19,6 +20,14 @@ level-split g s = omega (arith, parted)
         ap (λ (n : ℕ). n * g) (sym (div-add-mod s 255))
         ∙ add-mul (255 * (s / 255)) (s % 255) g
         ∙ ap (λ (n : ℕ). n + s % 255 * g) (mul-assoc 255 (s / 255) g)
+
+-- ---- the top that is meant
+pub top-some : (t : ℕ) → 0 < topOf t
+top-some zero = omega arith
+top-some (suc t) = rw (ne-eqb (suc t) 0 (λ e. absurd (omega arith))) (omega arith)
+
+pub top-same : (t : ℕ) → 0 < t → topOf t ≡ t
+top-same t h = rw (ne-eqb t 0 (λ e. absurd (omega arith)))
 
 -- ---- the grey before it is held to the top
 abbrev pub rounded : ℕ → ℕ → ℕ → ℕ
@@ -58,6 +67,10 @@ module _ (top x s : ℕ) where
         ap (λ (n : ℕ). n / (2 * s)) {x = 2 * (x * top) + s} {y = (q + 1) * (2 * s) + (2 * r - s)}
         (omega (arith, mul-comm x top, mul-left-comm q 2 s, add-mul q 1 (2 * s)))
         ∙ digits-div (q + 1) (omega arith)
+
+  -- from between whose bounds the formula's number lies
+  pub gray-from : (q : ℕ) → q ≤ top → q * (2 * s) ≤ 2 * (x * top) + s → 2 * (x * top) + s < (q + 1) * (2 * s) → grayAt top x s ≡ q
+  gray-from q h l u = omega (arith, div-eq-of-lt-le {k = q} (2 * s) {m = 2 * (x * top) + s} l u)
 
 -- ---- the least state of a grey, by a split quotient, and that it is the least
 pub least-split : (q s : ℕ) → (2 * q - 1) * (s / 510) + ((2 * q - 1) * (s % 510) + 509) / 510 ≡ leastOf q s
