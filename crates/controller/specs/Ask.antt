@@ -3,6 +3,7 @@
 use mathlib.Core.Bool.{Bool, true, false}
 use mathlib.Core.List.{List}
 use Prim.Native.Nat.{ℕ}
+use lib.ListN.{length}
 use Rattle.base.specs.Pick.{pick}
 use Rattle.ram.specs.declared.Found.{Found}
 use Rattle.controller.specs.declared.Due.{Due}
@@ -58,7 +59,7 @@ refusedBy (askBusy t) w = calls.questionRefused (w .chip)
 refusedBy askDeadline w = calls.questionRefused (w .chip)
 refusedBy (askBit older x y) w = calls.bitRefused (w .chip) (pick older (w .lent .old) (w .lent .new))
 refusedBy (askRow y) w = calls.rowRefused (w .chip) (w .lent .picture)
-refusedBy (askPicture top wide) w = calls.wideRefused (w .chip) (w .lent .states) wide
+refusedBy (askPicture top wide) w = calls.wideRefused (w .chip) (w .lent .states) (length wide)
 
 -- what a call hands back besides the record: the byte of a read, how many rows were taken, whether the busy pin is low, the deadline,
 -- a bit of the RAM, a part of the picture, the 16-bit buffer as it is left

@@ -115,18 +115,18 @@ rowAnswer p picture y =
     []
 
 -- the 16-bit picture at a top (2026-03): 6, then 5 for the states and the buffer, then the states by 7
-unfoldable pub wideRefused : Uc8253 → List ℤ → List ℕ → ℕ
-wideRefused p states wide =
+unfoldable pub wideRefused : Uc8253 → List ℤ → ℕ → ℕ
+wideRefused p states room =
     let pixels = p .config .panel .sources * p .config .panel .gates in
     pick (foreignRecord p) 6
-    (pick (eqb (length states) pixels && eqb (length wide) pixels)
+    (pick (eqb (length states) pixels && eqb room pixels)
     (pick (everyState (p .config .optics .«full_swing») states) 0 7)
     5)
 
 -- that buffer: each entry the grey of its state at the top, 0 standing for 255; a refused question leaves it
 unfoldable pub wideAnswer : Uc8253 → List ℤ → ℕ → List ℕ → List ℕ
 wideAnswer p states top wide =
-    pick (eqb (wideRefused p states wide) 0) (drawnAt (topOf top) (p .config .optics .«full_swing») states wide) wide
+    pick (eqb (wideRefused p states (length wide)) 0) (drawnAt (topOf top) (p .config .optics .«full_swing») states wide) wide
 
 -- no table, no level, no period
 unfoldable pub noWaveform : Waveform
