@@ -122,7 +122,7 @@ Holds file (reason.Offset offset count) = (offset ≡ offsetOf file) × (count �
 Holds file (reason.Length bytes offset) =
     (bytes ≡ length file) × (offset ≡ offsetOf file) × (bytes ≡ offset + 320 → ⊥) × (bytes ≡ offset + 328 → ⊥)
 Holds file (reason.Variant v) = (v ≡ variantAt file (offsetOf file)) × (1 < v)
-Holds file (reason.Flags f) = (f ≡ flagsAt file (offsetOf file)) × (7 < f)
+Holds file (reason.Flags f) = (f ≡ flagsAt file (offsetOf file)) × (15 < f)
 Holds file (reason.Kind i kind) = Faulty file (countOf file) (reason.Kind i kind)
 Holds file (reason.Value i kind value) = Faulty file (countOf file) (reason.Value i kind value)
 Holds file reason.Neither = Faulty file (countOf file) reason.Neither
