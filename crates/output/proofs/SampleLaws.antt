@@ -50,7 +50,7 @@ pub row-front : (top w y : ℕ) (p : List ℕ) {row b c : List ℕ} {r : ℕ} �
     → Puts (samplesOf top row) 0 r b c → take r c ≡ samplesOf top (rowOf w y p)
 row-front top w y p h k e q =
     let long : length (samplesOf top (rowOf w y p)) ≤ 131_070 =
-        omega (arith, length-samples top (rowOf w y p), length-take w (drop (y * w) p)) in
+    omega (arith, length-samples top (rowOf w y p), length-take w (drop (y * w) p)) in
     puts-front (puts-as q (ap (samplesOf top) e)) (omega (arith, long))
 
 -- ---- bytes at the top 255

@@ -167,20 +167,29 @@ module _ (w h : ℕ) (p : List ℕ) where
     unfolding wideRows
     past-wide y l = past-up-to h (λ y. samplesOf top (rowOf w y p)) [] y l
 
--- ---- a PNG file: a row that is not the last, and the last
-not-zero : (i : ℕ) → (i ≡ 0 → ⊥) → 0 < i
+-- ---- a PNG file: a row that is not the last, the last, and the end
+pub not-zero : (i : ℕ) → (i ≡ 0 → ⊥) → 0 < i
 not-zero zero f = absurd (f refl)
 not-zero (suc i) f = omega arith
 
-module _ (w h d : ℕ) (rows : List (List ℕ)) (e : length rows ≡ h) (i : ℕ) (f : i ≡ 0 → ⊥) where
-  pub row-mid : (s : Adler) → i - 1 + 1 < h → rowUnit (getD rows (i - 1) []) (eqb (i - 1) 0) false s ≡ getD (pngOf w h d rows) i []
-  row-mid s l = sym (png.is-row w h d rows i f (omega (arith, e, not-zero i f)) s)
+module _ (w h d : ℕ) (rows : List (List ℕ)) (e : length rows ≡ h) (i y : ℕ) (f : i ≡ y + 1) where
+  some : i ≡ 0 → ⊥
+  some z = omega (arith, f, z)
 
-  pub row-last : i - 1 + 1 ≡ h → rowUnit (getD rows (i - 1) []) (eqb (i - 1) 0) true (adlerOf rows) ≡ getD (pngOf w h d rows) i []
-  row-last l = sym (png.is-last w h d rows i f (omega (arith, e, not-zero i f)))
+  back : y ≡ i - 1
+  back = omega (arith, f)
 
-  pub file-end : i - 1 ≡ h → endUnit ≡ getD (pngOf w h d rows) i []
-  file-end l = sym (png.is-end w h d rows i (omega (arith, e, not-zero i f)))
+  pub row-mid : (s : Adler) → y + 1 < h → rowUnit (getD rows y []) (eqb y 0) false s ≡ getD (pngOf w h d rows) i []
+  row-mid s l =
+      ap (λ (k : ℕ). rowUnit (getD rows k []) (eqb k 0) false s) back ∙ sym (png.is-row w h d rows i some (omega (arith, e, f)) s)
+
+  pub row-last : y + 1 ≡ h → rowUnit (getD rows y []) (eqb y 0) true (adlerOf rows) ≡ getD (pngOf w h d rows) i []
+  row-last l =
+      ap (λ (k : ℕ). rowUnit (getD rows k []) (eqb k 0) true (adlerOf rows)) back
+      ∙ sym (png.is-last w h d rows i some (omega (arith, e, f, l)))
+
+  pub file-end : y ≡ h → endUnit ≡ getD (pngOf w h d rows) i []
+  file-end l = sym (png.is-end w h d rows i (omega (arith, e, f, l)))
 
 -- ---- a row of what is lent: none of it, a part, or the whole
 module _ (n y : ℕ) (l : List ℕ) where
