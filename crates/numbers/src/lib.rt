@@ -274,7 +274,8 @@ fn number_whole(
 ) -> u16
     requires { ⌜ (at < 2 ^ 33) × (x < count) ⌝ }
     ensures { λ r. ⌜ (x + r ≤ count)
-        × (now (numbers .exit) ≡ filled (λ k. numberIn row white (now (old .entry)) (now (new .entry)) (x + k)) at r (now (numbers .entry))) ⌝ }
+        × (now (numbers .exit)
+        ≡ filled (λ k. numberIn row white (now (old .entry)) (now (new .entry)) (x + k)) at r (now (numbers .entry))) ⌝ }
 {
     let n = bytes_from(count, row, x);
     let place = row.row as usize * 100 + x as usize / 8;
@@ -301,7 +302,8 @@ fn number_some(
 ) -> u16
     requires { ⌜ (at < 2 ^ 33) × (x < count) ⌝ }
     ensures { λ r. ⌜ Some r x count
-        × (now (numbers .exit) ≡ filled (λ k. numberIn row white (now (old .entry)) (now (new .entry)) (x + k)) at r (now (numbers .entry))) ⌝ }
+        × (now (numbers .exit)
+        ≡ filled (λ k. numberIn row white (now (old .entry)) (now (new .entry)) (x + k)) at r (now (numbers .entry))) ⌝ }
 {
     let alone = leave_some(numbers, at, count, row, x);
     if 0 < alone {
