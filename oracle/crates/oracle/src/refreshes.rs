@@ -58,7 +58,7 @@ fn draw(rng: &mut Rng) -> Refresh {
             _ => [0x3A, 0x3A, 0x03],
         },
         table: rng.between(1, 4) as u8,
-        tables: tables::five(rng, frames),
+        tables: tables::five(rng, frames, false),
     }
 }
 

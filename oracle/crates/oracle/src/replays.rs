@@ -44,7 +44,7 @@ const RATED_SHARE: usize = 2;
 
 /// The capture of a seed that has a rate.
 fn rated(seed: u64) -> Option<Vec<u8>> {
-    rate::board(seed).map(|_| generate::make(seed))
+    rate::board(seed).map(|_| generate::rated(seed))
 }
 
 /// How a capture ends, and its output.
