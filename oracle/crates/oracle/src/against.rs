@@ -19,15 +19,15 @@ use crate::run;
 /// How many captures go by between two lines of progress.
 const PROGRESS: u64 = 10_000;
 
-/// What `panel` writes for a capture; an error where it does not end as it should.
-fn panel(program: &Path, capture: &[u8]) -> io::Result<Vec<u8>> {
+/// What a program writes for its input; an error where it does not end as it should.
+pub fn output(program: &Path, bytes: &[u8]) -> io::Result<Vec<u8>> {
     let mut child = Command::new(program)
         .stdin(Stdio::piped())
         .stdout(Stdio::piped())
         .stderr(Stdio::piped())
         .spawn()?;
     if let Some(mut input) = child.stdin.take() {
-        match input.write_all(capture) {
+        match input.write_all(bytes) {
             // A capture that is too large is not read to its end.
             Err(error) if error.kind() == ErrorKind::BrokenPipe => {}
             result => result?,
@@ -38,9 +38,20 @@ fn panel(program: &Path, capture: &[u8]) -> io::Result<Vec<u8>> {
         return Ok(output.stdout);
     }
     Err(io::Error::other(format!(
-        "panel ended with {}",
+        "{} ended with {}",
+        program.display(),
         output.status
     )))
+}
+
+/// Keeps files by name in `difference/`.
+pub fn keep(files: &[(&str, &[u8])]) -> io::Result<()> {
+    let kept = Path::new("difference");
+    fs::create_dir_all(kept)?;
+    for (name, bytes) in files {
+        fs::write(kept.join(name), bytes)?;
+    }
+    Ok(())
 }
 
 /// Holds `panel` to the Rust, and tells how many captures were equal.
@@ -68,7 +79,7 @@ impl Comparison<'_> {
     fn holds(&mut self, name: &str, capture: &[u8]) -> io::Result<bool> {
         let judged = run::judge(capture);
         let rust = judged.text.into_bytes();
-        let ours = panel(self.program, capture);
+        let ours = output(self.program, capture);
         if ours.as_ref().is_ok_and(|ours| *ours == rust) {
             self.equal += 1;
             self.refused += u64::from(judged.is_refused);
@@ -76,12 +87,9 @@ impl Comparison<'_> {
             self.judges.add(judged.judges);
             return Ok(true);
         }
-        let kept = Path::new("difference");
-        fs::create_dir_all(kept)?;
-        fs::write(kept.join("capture"), capture)?;
-        fs::write(kept.join("rust"), &rust)?;
+        keep(&[("capture", capture), ("rust", &rust)])?;
         match ours {
-            Ok(ours) => fs::write(kept.join("panel"), ours)?,
+            Ok(ours) => keep(&[("panel", &ours)])?,
             Err(error) => println!("{error}"),
         }
         println!("{name} differs: see difference/");

@@ -1,16 +1,17 @@
-//! Refreshes of one pixel through the published controller: what it is given, and how long it lasts
-//! and which grey it leaves.
+//! Refreshes of one pixel: what they are given, and how long they last and which grey they leave.
 
-use chips::lines::ONE_GIGAHERTZ;
-use chips::uc8253::Uc8253;
-use emu_core::Cycles;
-
-use crate::capture::{Configuration, POSITIVE_DRIVES_BLACK};
+use crate::capture::{self, Configuration, Event, POSITIVE_DRIVES_BLACK, VCOM_BY_FRAME};
+use crate::chip::Chip;
 use crate::generate::tables;
 use crate::rng::Rng;
+use crate::run;
 use crate::script::example_panel;
 
 /// What a row holds: the last two are the answers. No digit stands in it.
+pub const RULED_HEAD: &str = "ruled RULE BLACK SWING GREY PERIOD, the three levels' bytes, TABLE \
+CUT NS, five tables as a count and bytes, DURATION GREY";
+
+/// The same of rule 1, whose number is left out.
 pub const HEAD: &str = "refresh BLACK SWING GREY PERIOD, the three levels' bytes, TABLE CUT NS, \
 five tables as a count and bytes, DURATION GREY";
 
@@ -49,7 +50,8 @@ fn configuration(rng: &mut Rng, frames: u64) -> Configuration {
     }
 }
 
-fn draw(rng: &mut Rng) -> Refresh {
+/// By rule 1; of rule 2 where VCOM's own timing is drawn.
+fn draw(rng: &mut Rng, own_vcom: bool) -> Refresh {
     let frames = rng.between(1, 40);
     Refresh {
         configuration: configuration(rng, frames),
@@ -58,21 +60,24 @@ fn draw(rng: &mut Rng) -> Refresh {
             _ => [0x3A, 0x3A, 0x03],
         },
         table: rng.between(1, 4) as u8,
-        tables: tables::five(rng, frames, false),
+        tables: tables::five(rng, frames, own_vcom),
     }
 }
 
-fn command(chip: &mut Uc8253, command: u8, data: &[u8]) {
-    chip.write_command(Cycles::ZERO, command);
+fn met(chip: &mut Chip, time: u64, kind: u8, value: u8) {
+    run::step(chip, Event { time, kind, value });
+}
+
+fn command(chip: &mut Chip, command: u8, data: &[u8]) {
+    met(chip, 0, capture::COMMAND, command);
     for &byte in data {
-        chip.write_data(Cycles::ZERO, byte);
+        met(chip, 0, capture::DATA, byte);
     }
 }
 
 /// The chip with the refresh just begun, at 0.
-fn begun(refresh: &Refresh) -> Uc8253 {
-    let mut chip = Uc8253::new(refresh.configuration.chip(), ONE_GIGAHERTZ)
-        .expect("the configuration is in range");
+fn begun(refresh: &Refresh) -> Chip {
+    let mut chip = run::make_any(&refresh.configuration).expect("the configuration is in range");
     let [third, fourth, fifth] = refresh.levels;
     command(&mut chip, 0x00, &[0x3F]);
     command(&mut chip, 0x01, &[0x07, 0x17, third, fourth, fifth]);
@@ -109,9 +114,25 @@ fn listed(table: &[u8]) -> String {
     words.join(" ")
 }
 
+/// A refresh by rule 1.
 pub fn row(rng: &mut Rng) -> String {
-    let refresh = draw(rng);
-    let mut chip = begun(&refresh);
+    let refresh = draw(rng, false);
+    format!("refresh {}", answered(rng, &refresh))
+}
+
+/// A refresh by either rule, most by rule 2.
+pub fn ruled_row(rng: &mut Rng) -> String {
+    let mut refresh = draw(rng, true);
+    if rng.chance(80) {
+        refresh.configuration.flags |= VCOM_BY_FRAME;
+    }
+    let rule = refresh.configuration.rule().number();
+    format!("ruled {rule} {}", answered(rng, &refresh))
+}
+
+/// What a refresh is given, its duration and its grey.
+fn answered(rng: &mut Rng, refresh: &Refresh) -> String {
+    let mut chip = begun(refresh);
     let duration = chip.next_deadline().expect("the refresh runs").get();
     let Configuration {
         flags,
@@ -122,14 +143,14 @@ pub fn row(rng: &mut Rng) -> String {
     } = refresh.configuration;
     let cut = rng.chance(60).then(|| cut(rng, periods[0], duration));
     match cut {
-        Some(elapsed) => chip.set_reset(Cycles(elapsed), true),
-        None => chip.advance(Cycles(duration)),
+        Some(elapsed) => met(&mut chip, elapsed, capture::RESET, 1),
+        None => met(&mut chip, duration, capture::ADVANCE, 0),
     }
     let image = chip.panel_image();
     assert_eq!((image.generation, image.interrupted), (1, cut.is_some()));
     let [third, fourth, fifth] = refresh.levels;
     format!(
-        "refresh {} {full_swing} {initial_grey} {} {third} {fourth} {fifth} {} {} {} {} {duration} {}",
+        "{} {full_swing} {initial_grey} {} {third} {fourth} {fifth} {} {} {} {} {duration} {}",
         u8::from(flags & POSITIVE_DRIVES_BLACK != 0),
         periods[0],
         refresh.table,
