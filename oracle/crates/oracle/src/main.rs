@@ -18,7 +18,7 @@ const USAGE: &str = "usage: oracle run | trace | list   (a capture on standard i
        oracle stats SEED N
        oracle answers SEED LEVELS GREYS REFRESHES [RULED]
        oracle replays SEED N DIR
-       oracle jobs DIR
+       oracle jobs DIR [ruled]
        oracle cases DIR | check DIR
        oracle compare PANEL N SEED
        oracle tables TEST_GLASS N SEED
@@ -94,7 +94,8 @@ fn obey(words: &[&str]) -> io::Result<ExitCode> {
         ["replays", seed, count, directory] => {
             replays::write(number(seed)?, number(count)?, Path::new(directory))?;
         }
-        ["jobs", directory] => jobs::write(Path::new(directory))?,
+        ["jobs", directory] => jobs::write(Path::new(directory), false)?,
+        ["jobs", directory, "ruled"] => jobs::write(Path::new(directory), true)?,
         ["cases", directory] => cases::write(Path::new(directory))?,
         ["check", directory] => {
             let (text, equal) = cases::check(Path::new(directory))?;

@@ -6,6 +6,10 @@ use crate::generate::tables;
 use crate::rng::Rng;
 use crate::run;
 use crate::script::example_panel;
+#[cfg(test)]
+use crate::vcom::{self, Glass, Rule, Waveform};
+#[cfg(test)]
+use chips::probe;
 
 /// What a row holds: the last two are the answers. No digit stands in it.
 pub const RULED_HEAD: &str = "ruled RULE BLACK SWING GREY PERIOD, the three levels' bytes, TABLE \
@@ -130,10 +134,73 @@ pub fn ruled_row(rng: &mut Rng) -> String {
     format!("ruled {rule} {}", answered(rng, &refresh))
 }
 
-/// What a refresh is given, its duration and its grey.
-fn answered(rng: &mut Rng, refresh: &Refresh) -> String {
+/// The grey that a refresh of the first so many frames, or of all, leaves, walked from the bytes
+/// that were loaded.
+#[cfg(test)]
+fn walked(refresh: &Refresh, rule: Rule, frames: Option<u64>) -> u8 {
+    let of = &refresh.configuration;
+    let tables = refresh.tables.each_ref().map(|table| &table[..]);
+    let waveform = Waveform::read(tables, refresh.levels, of.periods[0]);
+    let glass = Glass {
+        swing: i64::try_from(of.full_swing).expect("it is in range"),
+        positive_drives_black: of.flag(POSITIVE_DRIVES_BLACK),
+    };
+    let drives = waveform.drives(usize::from(refresh.table), rule, glass, frames);
+    let start = probe::level(of.initial_grey, glass.swing);
+    probe::gray(vcom::walk(&drives, glass.swing, start), glass.swing)
+}
+
+/// A refresh by a rule through the chip, whole or cut, and walked from its bytes: both greys, and
+/// what the walk by the other rule leaves.
+#[cfg(test)]
+pub fn both_ways(rng: &mut Rng, rule: Rule) -> [u8; 3] {
+    let mut refresh = draw(rng, true);
+    if rule == Rule::ByFrame {
+        refresh.configuration.flags |= VCOM_BY_FRAME;
+    }
+    let Ended { cut, grey, .. } = ended(rng, &refresh);
+    let frames = cut.map(|elapsed| elapsed / refresh.configuration.periods[0]);
+    let other = Rule::of(rule == Rule::ByPhase);
+    [
+        grey,
+        walked(&refresh, rule, frames),
+        walked(&refresh, other, frames),
+    ]
+}
+
+/// How a refresh ended: when reset cut it, if it did, its duration and the grey.
+struct Ended {
+    cut: Option<u64>,
+    duration: u64,
+    grey: u8,
+}
+
+/// The refresh through the chip, whole or cut.
+fn ended(rng: &mut Rng, refresh: &Refresh) -> Ended {
     let mut chip = begun(refresh);
     let duration = chip.next_deadline().expect("the refresh runs").get();
+    let period = refresh.configuration.periods[0];
+    let cut = rng.chance(60).then(|| cut(rng, period, duration));
+    match cut {
+        Some(elapsed) => met(&mut chip, elapsed, capture::RESET, 1),
+        None => met(&mut chip, duration, capture::ADVANCE, 0),
+    }
+    let image = chip.panel_image();
+    assert_eq!((image.generation, image.interrupted), (1, cut.is_some()));
+    Ended {
+        cut,
+        duration,
+        grey: image.pixels[0],
+    }
+}
+
+/// What a refresh is given, its duration and its grey.
+fn answered(rng: &mut Rng, refresh: &Refresh) -> String {
+    let Ended {
+        cut,
+        duration,
+        grey,
+    } = ended(rng, refresh);
     let Configuration {
         flags,
         full_swing,
@@ -141,16 +208,9 @@ fn answered(rng: &mut Rng, refresh: &Refresh) -> String {
         periods,
         ..
     } = refresh.configuration;
-    let cut = rng.chance(60).then(|| cut(rng, periods[0], duration));
-    match cut {
-        Some(elapsed) => met(&mut chip, elapsed, capture::RESET, 1),
-        None => met(&mut chip, duration, capture::ADVANCE, 0),
-    }
-    let image = chip.panel_image();
-    assert_eq!((image.generation, image.interrupted), (1, cut.is_some()));
     let [third, fourth, fifth] = refresh.levels;
     format!(
-        "{} {full_swing} {initial_grey} {} {third} {fourth} {fifth} {} {} {} {} {duration} {}",
+        "{} {full_swing} {initial_grey} {} {third} {fourth} {fifth} {} {} {} {} {duration} {grey}",
         u8::from(flags & POSITIVE_DRIVES_BLACK != 0),
         periods[0],
         refresh.table,
@@ -161,6 +221,5 @@ fn answered(rng: &mut Rng, refresh: &Refresh) -> String {
             .each_ref()
             .map(|table| listed(table))
             .join(" "),
-        image.pixels[0],
     )
 }

@@ -30,6 +30,7 @@ impl Rule {
 pub const TABLES: usize = 5;
 pub const GROUPS: usize = 7;
 const PHASES: usize = 4;
+const GROUP_BYTES: usize = 6;
 const VCOM: usize = 0;
 /// VCOM's code that lets it float.
 const FLOATS: u8 = 3;
@@ -42,6 +43,16 @@ pub struct Group {
 }
 
 impl Group {
+    /// Of the six bytes that a table has for it: codes, highest first, counts, repeats.
+    fn read(bytes: [u8; GROUP_BYTES]) -> Group {
+        let [codes, a, b, c, d, repeats] = bytes;
+        Group {
+            codes: [codes >> 6, codes >> 4 & 3, codes >> 2 & 3, codes & 3],
+            frames: [a, b, c, d],
+            repeats,
+        }
+    }
+
     fn ends(&self) -> bool {
         self.repeats == 0 || self.frames == [0; PHASES]
     }
@@ -99,6 +110,22 @@ pub struct Glass {
 }
 
 impl Waveform {
+    /// Of the five tables as they were loaded, and the third to fifth byte of 01.
+    pub fn read(tables: [&[u8]; TABLES], power: [u8; 3], period: u64) -> Waveform {
+        let [first, second, third] = power.map(|byte| 2_400 + 200 * i64::from(byte & 0x3F));
+        Waveform {
+            tables: tables.map(|table| {
+                let byte = |at: usize| table.get(at).copied().unwrap_or(0);
+                std::array::from_fn(|group| {
+                    let first = GROUP_BYTES * group;
+                    Group::read(std::array::from_fn(|at| byte(first + at)))
+                })
+            }),
+            levels: [first, -second, third],
+            period,
+        }
+    }
+
     fn level(&self, code: u8) -> i64 {
         match code {
             0 => 0,

@@ -54,7 +54,7 @@ const SHORTER: Tables = Tables {
 
 const LONGER: Tables = Tables {
     names: ["rule-1-longer", "rule-2-longer"],
-    shows: "VCOM goes on after three frames of the pixel, which its second phase has met",
+    shows: "VCOM goes on after the pixel's three frames, of which the last meets its second phase",
     // VCOM 2 2 1 1 1 1 1; source 2 2 2: up by 0 0 2
     vcom: &[0x90, 2, 5, 0, 0, 1],
     pixels: &[0x80, 3, 0, 0, 0, 1],
