@@ -11,6 +11,7 @@ use oracle::log::Log;
 use oracle::refusal::Refusal;
 use oracle::rows::{self, KIND_WORDS};
 use oracle::run;
+use oracle::vcom::Rule;
 
 use crate::difference::{Difference, same};
 use crate::memory::{self, Seen};
@@ -131,7 +132,9 @@ impl Beside {
             board: configuration.clock().expect("it is made"),
             ours,
             rust,
-            emptied: run::make_any(configuration).expect("made once already"),
+            emptied: run::make_any(configuration)
+                .expect("made once already")
+                .without_pictures(),
             log: Log::default(),
             compared: 0,
             reported: [0; KIND_WORDS.len()],
@@ -219,6 +222,9 @@ impl Beside {
             our_facts(self.ours.image()),
             rust_facts(image),
         )?;
+        let by_frame = self.rust.rule() == Rule::ByFrame;
+        let rule = self.ours.record().vcom_by_frame;
+        same("VCOM by frame", rule, by_frame)?;
         self.turn += 1;
         let place = self.before.cursor;
         self.seen.compare_changed(&self.ours, &self.rust)?;

@@ -82,7 +82,7 @@ fn trace(capture: &Capture) -> Vec<u8> {
     };
     let mut chips = Counted {
         chip: accepted(),
-        emptied: accepted(),
+        emptied: accepted().without_pictures(),
         log: Log::default(),
     };
     let mut bytes = (file.len() as u32).to_le_bytes().to_vec();

@@ -79,8 +79,19 @@ pub struct Chip {
     generation: u64,
     own: Option<Own>,
     judges: Judges,
-    /// Whether each refresh is walked, to hold the walk to the published chip.
-    walks_all: bool,
+    walks: Walks,
+}
+
+/// Which refreshes are walked.
+#[derive(Clone, Copy, PartialEq, Eq)]
+enum Walks {
+    /// Those that the published chip cannot judge.
+    Needed,
+    /// None: nobody asks for pictures.
+    Never,
+    /// Each, to hold the walk to the published chip.
+    #[cfg(test)]
+    Always,
 }
 
 impl Chip {
@@ -97,7 +108,7 @@ impl Chip {
             generation: 0,
             own: None,
             judges: Judges::default(),
-            walks_all: false,
+            walks: Walks::Needed,
             published,
         }
     }
@@ -106,7 +117,15 @@ impl Chip {
     #[cfg(test)]
     pub fn walking_all(self) -> Chip {
         Chip {
-            walks_all: true,
+            walks: Walks::Always,
+            ..self
+        }
+    }
+
+    /// The same with none walked, for a run whose pictures nobody asks for.
+    pub fn without_pictures(self) -> Chip {
+        Chip {
+            walks: Walks::Never,
             ..self
         }
     }
@@ -142,11 +161,21 @@ impl Chip {
         }
     }
 
+    /// Whether a refresh that has begun may have to be walked.
+    fn may_walk(&self) -> bool {
+        match self.walks {
+            Walks::Needed => self.rule == Rule::ByFrame || self.own.is_some(),
+            Walks::Never => false,
+            #[cfg(test)]
+            Walks::Always => true,
+        }
+    }
+
     /// A refresh has begun, by the rule in force.
     fn begin(&mut self) {
         let rule = self.rule;
         self.running = Running::Published(rule);
-        if rule == Rule::ByPhase && self.own.is_none() && !self.walks_all {
+        if !self.may_walk() {
             return;
         }
         let Inside {
@@ -154,7 +183,7 @@ impl Chip {
             numbers,
             states,
         } = inside::look(&self.published);
-        if self.own.is_none() && !self.walks_all && waveform.rules_agree() {
+        if self.walks == Walks::Needed && self.own.is_none() && waveform.rules_agree() {
             return;
         }
         let image = self.published.panel_image();

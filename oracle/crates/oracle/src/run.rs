@@ -86,7 +86,8 @@ pub fn events(
 }
 
 /// The log as the Rust itself keeps it, with no row left out.
-pub fn own_log(mut chip: Chip, events: &[Event]) -> Log {
+pub fn own_log(chip: Chip, events: &[Event]) -> Log {
+    let mut chip = chip.without_pictures();
     for &event in events {
         step(&mut chip, event);
     }

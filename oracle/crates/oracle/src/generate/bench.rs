@@ -68,7 +68,9 @@ impl Bench {
     /// A run of any length, on a panel of any size.
     pub fn long(panel: Panel) -> Bench {
         let in_range = "a panel is made to be in range";
-        let chip = run::make_any(&panel.configuration).expect(in_range);
+        let chip = run::make_any(&panel.configuration)
+            .expect(in_range)
+            .without_pictures();
         Bench {
             board: panel.configuration.clock().expect(in_range),
             rng: panel.rng,
