@@ -143,10 +143,10 @@ handedOf p = record {
   now = p .now;
   variant = variantNumber (p .config .variant);
   ambient = p .config .«ambient_celsius»;
-  «made_by_frame» = p .config .«vcom_by_frame»;
-  «vcom_by_frame» = p .mode .«vcom_by_frame»;
   power = powerNumber (p .mode .power);
   powered = p .mode .powered;
   «data_flag» = p .mode .«data_flag»;
   current = currentNumbers (p .stage .current) .current;
+  «made_by_frame» = p .config .«vcom_by_frame»;
+  «vcom_by_frame» = p .mode .«vcom_by_frame»;
 }

@@ -75,13 +75,13 @@ pub struct Handed {
     pub now: u64,
     pub variant: u8,
     pub ambient: u8,
-    // VCOM's rule 2: selected at making, and in force.
-    pub made_by_frame: bool,
-    pub vcom_by_frame: bool,
     pub power: u8,
     pub powered: bool,
     pub data_flag: bool,
     pub current: u8,
+    // VCOM's rule 2: selected at making, and in force.
+    pub made_by_frame: bool,
+    pub vcom_by_frame: bool,
 }
 
 fn variant_number(variant: Variant) -> u8
@@ -377,11 +377,11 @@ pub(crate) fn hand_over(p: Uc8253) -> Handed
         now: p.now,
         variant: variant_of_chip(p),
         ambient: config.ambient_celsius,
-        made_by_frame: config.vcom_by_frame,
-        vcom_by_frame: p.mode.vcom_by_frame,
         power: power_of_chip(p),
         powered: p.mode.powered,
         data_flag: p.mode.data_flag,
         current: current.current,
+        made_by_frame: config.vcom_by_frame,
+        vcom_by_frame: p.mode.vcom_by_frame,
     }
 }

@@ -6,7 +6,7 @@ use Prim.Native.Nat.{ℕ, zero, suc, _+_, _*_, _-_, _≤_, _<_, min, max}
 use native.Mathlib.Nat.{div-lt-iff-lt-mul}
 use native.Mathlib.Omega.{arith}
 use lib.Dec.{lit<, lit≤, leb, eqb}
-use lib.IntN.{pos}
+use lib.IntN.{ℤ, pos}
 use lib.ListN.{length}
 use Rattle.base.proofs.Cases.{both}
 use Rattle.config.specs.declared.Uc8253Config.{Uc8253Config}
@@ -267,7 +267,7 @@ acceptance = record {
   state-before = state-before;
   state-after = state-after;
   empty-long = λ w e h. rw (longest-empty (w .tables) e) (omega arith);
-  empty-driven = λ w e black k. rw (e k);
+  empty-driven = λ w e black k. both (λ (ds : List ℤ). ds ≡ []) (w .«vcom_by_frame») (rw (e k)) (rw (e k));
   empty-reset = empty-reset;
   empty-met = λ v. empty-reset (made (slow v) bench .chip) (luts-met v);
   made-met = made-met;
