@@ -346,7 +346,12 @@ pub extern "C" fn jollanqe_busy(chip: Handed, at: u64) -> Asked
 
 // The picture of the states at a top, 0 standing for 255, into the lent buffer.
 #[no_mangle]
-pub extern "C" fn jollanqe_picture(chip: Handed, states: &[i64], wide: &mut [u16], top: u16) -> Asked
+pub extern "C" fn jollanqe_picture(
+    chip: Handed,
+    states: &[i64],
+    wide: &mut [u16],
+    top: u16,
+) -> Asked
     ensures { λ r. ⌜ ((b : Buffers) → r ≡ rule.asked (ask.askPicture top (now (wide .entry))) chip (withStates (now (states .entry)) b)) ⌝ }
     ensures { λ r. ⌜ ((b : Buffers) → ask.wide (now (wide .exit))
         ≡ ask.answered (ask.askPicture top (now (wide .entry))) (world (recordTaken chip) (withStates (now (states .entry)) b))) ⌝ }
