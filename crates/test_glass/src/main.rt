@@ -1,6 +1,6 @@
-// Replays stored answers of the Rust (oracle/README.md says how they are made): standard input holds
-// tables, each a count and then so many rows. Prints a line for each row that differs, and a last
-// line for each table.
+// Replays stored answers of the Rust (oracle/README.md says how they are made) and of tests/greys.py:
+// standard input holds tables, each a count and then so many rows. Prints a line for each row that
+// differs, and a last line for each table.
 mod print;
 mod refresh;
 mod table;
@@ -15,6 +15,8 @@ fn replay(s: &[u8]) {
     print::summary(Table::Gray, grays);
     let refreshes = table::compared(Table::Refresh, s, grays.next);
     print::summary(Table::Refresh, refreshes);
+    let wide = table::compared(Table::Wide, s, refreshes.next);
+    print::summary(Table::Wide, wide);
 }
 
 fn main() {

@@ -14,6 +14,9 @@ fn name(table: Table) {
         Table::Refresh => {
             io::write_all(STDOUT_FILENO, b"refresh");
         }
+        Table::Wide => {
+            io::write_all(STDOUT_FILENO, b"wide");
+        }
     }
 }
 
