@@ -78,7 +78,7 @@ returns-5 c = λ e.
     let over = a .x + a .w .whole - 2 * a .q * a .w .whole in
     grey-past (a .w .top) (a .w) (s .pre .0) (a .q) (s .pre .1) (a .x) over (omega (arith, c .before .before .before .before .before .before .before .before .before .before .before .if1 .left)) (c .before .before .before .before .before .before .before .before .before .least .result)
     (omega (arith, c .before .before .before .before .before .before .before .before .before .least .ensures)) (omega (arith, c .before .before .before .before .before .before .if2 .left)) (over - 2 * a .w .whole) (omega (arith, c .before .before .before .before .if3 .left))
-    (omega (arith, ltb-true _ _ e))
+    (ltb-true (a .w .double * (over - 2 * a .w .whole)) (2 * a .q * a .w .rest + a .w .rest) e)
 
 pub is-grey-spec : {M : Type 1} → statement M
 is-grey-spec =
