@@ -40,7 +40,7 @@ didBy clock (askBusy t) w = w
 didBy clock askDeadline w = w
 didBy clock (askBit older x y) w = w
 didBy clock (askRow y) w = w
-didBy clock (askPicture top wide) w = w
+didBy clock (askPicture top buffer) w = w
 
 -- by those of the record's own clock
 abbrev pub did : Ask → World → World
@@ -59,7 +59,7 @@ refusedBy (askBusy t) w = calls.questionRefused (w .chip)
 refusedBy askDeadline w = calls.questionRefused (w .chip)
 refusedBy (askBit older x y) w = calls.bitRefused (w .chip) (pick older (w .lent .old) (w .lent .new))
 refusedBy (askRow y) w = calls.rowRefused (w .chip) (w .lent .picture)
-refusedBy (askPicture top wide) w = calls.wideRefused (w .chip) (w .lent .states) (length wide)
+refusedBy (askPicture top buffer) w = calls.wideRefused (w .chip) (w .lent .states) (length buffer)
 
 -- what a call hands back besides the record: the byte of a read, how many rows were taken, whether the busy pin is low, the deadline,
 -- a bit of the RAM, a part of the picture, the 16-bit buffer as it is left
@@ -100,4 +100,4 @@ writes (askBusy t) = false
 writes askDeadline = false
 writes (askBit older x y) = false
 writes (askRow y) = false
-writes (askPicture top wide) = false
+writes (askPicture top buffer) = false

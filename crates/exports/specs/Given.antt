@@ -12,7 +12,7 @@ use Rattle.controller.specs.declared.Due.the-variants as dues
 use Rattle.controller.specs.World.{World, Buffers, world}
 use Rattle.controller.specs.TurnedBack.{foreignRecord, lentFits, makingRefused}
 use Rattle.controller.specs.Calls.{made}
-use Rattle.controller.specs.Ask.{Ask, Answer, nothing, byte, count, low, due, bit, part, did, refusedBy, answered}
+use Rattle.controller.specs.Ask.{Ask, Answer, nothing, byte, count, low, due, bit, part, wide, did, refusedBy, answered}
 use Rattle.controller.specs.Lent.{Over, before, after}
 use Rattle.event.specs.Events as runs
 use Rattle.exports.specs.declared.Given.{Given}
