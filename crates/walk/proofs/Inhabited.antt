@@ -157,8 +157,8 @@ taken : (v : Variant) → makingRefused (slow v) bench ≡ 0
 unfolding slow
 taken v = taken-by v 1_000 billion refl (rate-good billion (lit≤ tt) (lit≤ tt))
 
-fine : plain 1 (map feed refreshCalls) ≡ true
-unfolding refreshCalls
+fine : plain (pixels g) (map feed refreshCalls) ≡ true
+unfolding slow refreshCalls
 fine = refl
 
 -- the machine, run by the checker
