@@ -24,10 +24,10 @@
  * read answers 256, a refused taking 0; a refused question has value 0 and is not known. Only a run may be
  * refused in part: see jollanqe_run.
  *
- * WHAT IS TAKEN. Every command, data byte, read, reset edge and time; a time before the clock happens at
- * the clock. What is passed over of a file or of events stands at jollanqe_make and jollanqe_run. Buffers
- * are taken by their lengths, not by whose they are: with those of another panel of the same size, or with
- * an older record, a call does what it says with what it is lent.
+ * WHAT IS TAKEN. Every command, data byte, read, reset edge, rule of VCOM and time; a time before the clock
+ * happens at the clock. What is passed over of a file or of events stands at jollanqe_make and jollanqe_run.
+ * Buffers are taken by their lengths, not by whose they are: with those of another panel of the same size, or
+ * with an older record, a call does what it says with what it is lent.
  */
 #ifndef JOLLANQE_H
 #define JOLLANQE_H
@@ -87,11 +87,12 @@ enum jollanqe_refusal {
 
 /* The kinds of an event. */
 enum jollanqe_event {
-    JOLLANQE_COMMAND = 1, /* the value is the command byte */
-    JOLLANQE_DATA = 2,    /* the value is the data byte */
-    JOLLANQE_READ = 3,    /* value 0 */
-    JOLLANQE_RESET = 4,   /* value 1: RST_N falls (asserted); 0: it rises */
-    JOLLANQE_ADVANCE = 5  /* value 0: time passes */
+    JOLLANQE_COMMAND = 1,  /* the value is the command byte */
+    JOLLANQE_DATA = 2,     /* the value is the data byte */
+    JOLLANQE_READ = 3,     /* value 0 */
+    JOLLANQE_RESET = 4,    /* value 1: RST_N falls (asserted); 0: it rises */
+    JOLLANQE_ADVANCE = 5,  /* value 0: time passes */
+    JOLLANQE_VCOM_RULE = 6 /* value 1 or 2: VCOM's rule from the next refresh on */
 };
 
 /* `variant` of a record. In a record any number past the last of a list stands for the last. */
@@ -249,9 +250,10 @@ typedef struct jollanqe_waveform {
     jollanqe_group tables[5][7]; /* by the table's number, 0 VCOM; seven groups each */
     jollanqe_levels levels;      /* the supplies */
     uint64_t frame_ns;           /* the frame period in nanoseconds */
+    bool vcom_by_frame;          /* the rule that the refresh was started by: 2, else 1 */
 } jollanqe_waveform;
-JOLLANQE_HOLDS(sizeof(jollanqe_waveform) == 336 && offsetof(jollanqe_waveform, levels) == 316);
-JOLLANQE_HOLDS(offsetof(jollanqe_waveform, frame_ns) == 328);
+JOLLANQE_HOLDS(sizeof(jollanqe_waveform) == 344 && offsetof(jollanqe_waveform, levels) == 316);
+JOLLANQE_HOLDS(offsetof(jollanqe_waveform, frame_ns) == 328 && offsetof(jollanqe_waveform, vcom_by_frame) == 336);
 
 /* How many rows of diagnostics there are. */
 typedef struct jollanqe_log {
@@ -318,10 +320,13 @@ typedef struct jollanqe_record {
     bool powered;                 /* the supplies are up */
     bool data_flag;               /* 11 came after the last plane */
     uint8_t current;              /* enum jollanqe_current */
+    bool made_by_frame;           /* of the configuration: rule 2 at making */
+    bool vcom_by_frame;           /* the rule in force, which the next refresh starts by: 2, else 1 */
 } jollanqe_record;
-JOLLANQE_HOLDS(sizeof(jollanqe_record) == 1024 && offsetof(jollanqe_record, regs) == 328);
-JOLLANQE_HOLDS(offsetof(jollanqe_record, waveform) == 568 && offsetof(jollanqe_record, image) == 960);
-JOLLANQE_HOLDS(offsetof(jollanqe_record, now) == 1008 && offsetof(jollanqe_record, current) == 1021);
+JOLLANQE_HOLDS(sizeof(jollanqe_record) == 1032 && offsetof(jollanqe_record, regs) == 328);
+JOLLANQE_HOLDS(offsetof(jollanqe_record, waveform) == 568 && offsetof(jollanqe_record, image) == 968);
+JOLLANQE_HOLDS(offsetof(jollanqe_record, now) == 1016 && offsetof(jollanqe_record, current) == 1029);
+JOLLANQE_HOLDS(offsetof(jollanqe_record, vcom_by_frame) == 1031);
 
 /* What a call gives back. */
 typedef struct jollanqe_given {
@@ -329,8 +334,8 @@ typedef struct jollanqe_given {
     uint8_t refused;      /* enum jollanqe_refusal, 0 where the call was taken */
     uint16_t answer;      /* a read's byte, 256 for none; how many rows were taken; else 257 */
 } jollanqe_given;
-JOLLANQE_HOLDS(sizeof(jollanqe_given) == 1032 && offsetof(jollanqe_given, refused) == 1024);
-JOLLANQE_HOLDS(offsetof(jollanqe_given, answer) == 1026);
+JOLLANQE_HOLDS(sizeof(jollanqe_given) == 1040 && offsetof(jollanqe_given, refused) == 1032);
+JOLLANQE_HOLDS(offsetof(jollanqe_given, answer) == 1034);
 
 /* What a question gives back. */
 typedef struct jollanqe_asked {
@@ -355,7 +360,7 @@ JOLLANQE_HOLDS(sizeof(jollanqe_asked) == 16 && offsetof(jollanqe_asked, known) =
  * Makes a panel from the configuration of a capture file: the 312 bytes to which the file's trailer
  * points (a file of these and the trailer 0, 0 will do), at 1 GHz, or at the rate behind them where the
  * file has offset + 328 bytes. Bytes past the file's end count as 0, so an empty file is refused by 1.
- * Refusals 8 and 9 are not tested: a variant other than 0 is a UC8279d, and flags above bit 2 are passed
+ * Refusals 8 and 9 are not tested: a variant other than 0 is a UC8279d, and flags above bit 3 are passed
  * over. Every entry of the six buffers is set.
  */
 jollanqe_given jollanqe_make(const uint8_t *file, size_t file_length, uint8_t *old_plane, size_t old_length,
@@ -394,11 +399,20 @@ jollanqe_given jollanqe_advance(jollanqe_record chip, uint64_t at, uint8_t *old_
                                 uint64_t *rows, size_t rows_length);
 
 /*
+ * Time passes, and VCOM goes by frame (true: rule 2) or by phase (false: rule 1) from the next refresh on. One
+ * that runs ends by the rule that it was started by. No command is closed; neither reset, sleep nor busy bars it.
+ */
+jollanqe_given jollanqe_vcom_rule(jollanqe_record chip, uint64_t at, bool by_frame, uint8_t *old_plane,
+                                  size_t old_length, uint8_t *new_plane, size_t new_length, int64_t *states,
+                                  size_t states_length, uint8_t *numbers, size_t numbers_length, uint8_t *picture,
+                                  size_t picture_length, uint64_t *rows, size_t rows_length);
+
+/*
  * Events of ten bytes one after the other: time (8, lowest byte first), kind, value. answers[i] becomes
  * what event i answers: the byte of a read or 256, else 257.
  *   - Bytes after the last whole event are passed over; with fewer than ten, nothing happens.
  *   - A kind that is not listed does nothing and answers 257. A value is not tested: kind 4 releases
- *     reset by any value but 1, and kinds 3 and 5 pass theirs over.
+ *     reset by any value but 1, kind 6 sets rule 1 by any value but 2, and kinds 3 and 5 pass theirs over.
  *   - Answers past the end of a shorter `answers` are lost; entries past the last event stay.
  *   - An event that is refused changes nothing, and the run goes on; `refused` is the first one's
  *     number. By 6 and 5 every event is refused, and the record comes back as it was handed in. By 7
@@ -462,11 +476,14 @@ static inline bool jollanqe_bools_hold(const void *record) {
         offsetof(jollanqe_record, panel) + offsetof(jollanqe_geometry, columns_reversed),
         offsetof(jollanqe_record, optics) + offsetof(jollanqe_optics, positive_drives_black),
         offsetof(jollanqe_record, regs) + offsetof(jollanqe_registers, partial),
+        offsetof(jollanqe_record, waveform) + offsetof(jollanqe_waveform, vcom_by_frame),
         offsetof(jollanqe_record, active) + offsetof(jollanqe_active, extra_reported),
         offsetof(jollanqe_record, active) + offsetof(jollanqe_active, past_reported),
         offsetof(jollanqe_record, image) + offsetof(jollanqe_image, interrupted),
         offsetof(jollanqe_record, powered),
         offsetof(jollanqe_record, data_flag),
+        offsetof(jollanqe_record, made_by_frame),
+        offsetof(jollanqe_record, vcom_by_frame),
     };
     const unsigned char *bytes = (const unsigned char *)record;
     for (size_t i = 0; i < sizeof places / sizeof *places; i++) {

@@ -38,7 +38,7 @@ RATED_BYTES = 320  # a configuration with the rate of the clock behind it
 GIGAHERTZ = 1_000_000_000
 
 UC8253, UC8279D = 0, 1
-COMMAND, DATA, READ, RESET, ADVANCE = 1, 2, 3, 4, 5
+COMMAND, DATA, READ, RESET, ADVANCE, VCOM_RULE = 1, 2, 3, 4, 5, 6
 NOTHING, NO_READ = 256, 257
 
 WORDS = (
@@ -160,7 +160,12 @@ class Levels(Structure):
 class Waveform(Structure):
     """What the refresh that was started last drives with."""
 
-    _fields_ = [("tables", Group * 7 * 5), ("levels", Levels), ("frame_ns", c_uint64)]
+    _fields_ = [
+        ("tables", Group * 7 * 5),
+        ("levels", Levels),
+        ("frame_ns", c_uint64),
+        ("vcom_by_frame", c_bool),
+    ]
 
 
 class Log(Structure):
@@ -234,6 +239,8 @@ class Record(Structure):
         ("powered", c_bool),
         ("data_flag", c_bool),
         ("current", c_uint8),
+        ("made_by_frame", c_bool),
+        ("vcom_by_frame", c_bool),
     ]
 
 
@@ -261,13 +268,13 @@ SIZES = {
     Luts: 210,
     Group: 9,
     Levels: 6,
-    Waveform: 336,
+    Waveform: 344,
     Log: 16,
     Active: 18,
     Operation: 32,
     Image: 32,
-    Record: 1_024,
-    Given: 1_032,
+    Record: 1_032,
+    Given: 1_040,
     Asked: 16,
 }
 
@@ -308,6 +315,7 @@ _CALLS = {
     "jollanqe_read": (Given, [Record, c_uint64] + _SIX),
     "jollanqe_reset": (Given, [Record, c_uint64, c_bool] + _SIX),
     "jollanqe_advance": (Given, [Record, c_uint64] + _SIX),
+    "jollanqe_vcom_rule": (Given, [Record, c_uint64, c_bool] + _SIX),
     "jollanqe_run": (Given, [Record] + _slice("B") + _slice("H") + _SIX),
     "jollanqe_take": (Given, [Record] + _slice("Q")),
     "jollanqe_busy": (Asked, [Record, c_uint64]),
@@ -425,6 +433,7 @@ class Configuration:
     soft_reset: int = 0
     hardware_reset: int = 0
     rate: int = GIGAHERTZ
+    vcom_by_frame: bool = False
 
     @classmethod
     def x3(cls, variant=UC8253):
@@ -451,7 +460,8 @@ class Configuration:
             raise ValueError(f"{len(periods)} frame periods, not 32")
         if self.variant not in (UC8253, UC8279D):
             raise ValueError(f"variant {self.variant} is neither {UC8253} (UC8253) nor {UC8279D} (UC8279d)")
-        flags = bool(self.rows_reversed) | bool(self.columns_reversed) << 1 | bool(self.positive_drives_black) << 2
+        flags = bool(self.rows_reversed) | bool(self.columns_reversed) << 1
+        flags |= bool(self.positive_drives_black) << 2 | bool(self.vcom_by_frame) << 3
         if not -128 <= index(self.ambient) <= 127:
             raise ValueError(f"ambient {self.ambient} is no signed byte")
         rate = _number(self.rate, 2**64 - 1, "rate")
@@ -473,7 +483,7 @@ class Configuration:
         rate = int.from_bytes(data[CONFIGURATION_BYTES:], "little") if len(data) == RATED_BYTES else GIGAHERTZ
         data = data[:CONFIGURATION_BYTES] if len(data) == RATED_BYTES else data
         variant, flags, sources, gates, grey, ambient, swing, *times = _LAYOUT.unpack(data)
-        if variant > UC8279D or flags > 7:
+        if variant > UC8279D or flags > 15:
             raise Refused(9)
         on, off, sleep, soft, hard, *periods = times
         return cls(
@@ -493,6 +503,7 @@ class Configuration:
             hardware_reset=hard,
             frame_periods=tuple(periods),
             rate=rate,
+            vcom_by_frame=bool(flags & 8),
         )
 
 
@@ -505,9 +516,9 @@ def _whole(events):
 
 def _unlisted(events):
     """The first event whose kind or value is not listed, if any."""
-    most = (-1, 255, 255, 0, 1, 0)
+    least, most = (0, 0, 0, 0, 0, 0, 1), (-1, 255, 255, 0, 1, 0, 2)
     for at, (kind, value) in enumerate(zip(events[8::EVENT_BYTES], events[9::EVENT_BYTES])):
-        if kind > ADVANCE or value > most[kind]:
+        if kind > VCOM_RULE or not least[kind] <= value <= most[kind]:
             return at
     return None
 
@@ -609,6 +620,14 @@ class Panel:
         """Time passes: what has come to its end by then ends."""
         self._call("jollanqe_advance", _time(at))
 
+    def vcom_rule(self, at, by_frame):
+        """Time passes, and VCOM goes by frame (True: rule 2) or by phase (False: rule 1) from the next refresh on.
+
+        One that runs ends by the rule that it was started by; no command is closed. A rule's number is a TypeError."""
+        if not isinstance(by_frame, bool):
+            raise TypeError(f"by frame: {by_frame!r} is neither True (rule 2) nor False (rule 1)")
+        self._call("jollanqe_vcom_rule", _time(at), by_frame)
+
     def send(self, at, command, data=b""):
         """A command with its data bytes, all at one time, in one call of the library."""
         data = _bytes(data)
@@ -679,7 +698,7 @@ class Panel:
 
     @property
     def record(self):
-        """A copy of the controller's record. A Record or 1,016 bytes may be put in its place: a
+        """A copy of the controller's record. A Record or its bytes may be put in its place: a
         ValueError where a bool of it is another byte than 0 and 1, which the library must not see.
         Whatever else is wrong with it, the next call tests."""
         numbers = int.from_bytes(bytes(self._record), "little") & _FIELDS  # no bytes between fields
@@ -744,18 +763,21 @@ def _shows():
         soft_reset=14,
         hardware_reset=15,
         rate=32_768,
+        vcom_by_frame=True,
     )
     panel = Panel(configuration)
     panel.command(9, 0xFF)
+    panel.vcom_rule(9, False)
     record, timing = panel.record, panel.record.timing
     seen = [record.panel.sources, record.panel.gates, record.panel.rows_reversed, record.panel.columns_reversed]
     seen += [record.optics.full_swing, record.optics.positive_drives_black, record.optics.initial_gray]
     seen += [timing.power_on, timing.power_off, timing.deep_sleep, timing.soft_reset, timing.hardware_reset]
     seen += [*timing.frame_period, timing.rate]
     seen += [record.image.width, record.image.height, record.log.stored, record.now, record.variant, record.ambient]
+    seen += [record.made_by_frame, record.vcom_by_frame]
     seen += [record.current, list(panel.picture), panel.read(9), panel.deadline(), panel.take()]
     must = [3, 2, False, True, 2**62 + 1, False, 77, 11, 12, 13, 14, 15, *range(101, 133), 32_768]
-    must += [3, 2, 1, 9, 1, 251, 1, [77] * 6, None, None, [(9, 1, 255, 0, 0)]]
+    must += [3, 2, 1, 9, 1, 251, True, False, 1, [77] * 6, None, None, [(9, 1, 255, 0, 0)]]
     return seen, must
 
 

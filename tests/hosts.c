@@ -85,11 +85,12 @@ static const size_t padding[][2] = {
     {AT(luts) + sizeof(jollanqe_luts), AT(waveform)},
     {AT(waveform.tables) + 5 * 7 * sizeof(jollanqe_group), AT(waveform.levels)},
     {AT(waveform.levels) + sizeof(jollanqe_levels), AT(waveform.frame_ns)},
+    {AT(waveform.vcom_by_frame) + 1, AT(active)},
     {AT(active.past_reported) + 1, AT(operation)},
     {AT(operation.kind) + 1, AT(image)},
     {AT(image.interrupted) + 1, AT(log)},
     {AT(log.stored) + 2, AT(log.dropped)},
-    {AT(current) + 1, sizeof(jollanqe_record)},
+    {AT(vcom_by_frame) + 1, sizeof(jollanqe_record)},
 };
 
 static bool same_records(const jollanqe_record *a, const jollanqe_record *b) {
@@ -172,8 +173,8 @@ static panel refreshing(void) {
 
 /* ---- calls by number ---- */
 
-enum { CALLS = 7 };
-static const char *const call_names[CALLS] = {"command", "data", "read", "assert", "release", "advance", "run"};
+enum { CALLS = 8, RUN = 7 };
+static const char *const call_names[CALLS] = {"command", "data", "read", "assert", "release", "advance", "rule", "run"};
 
 /* One of the calls that are lent the six buffers; an assert, and any at a late time, ends a refresh. */
 static jollanqe_given call(int which, jollanqe_record record, uint64_t at, uint8_t byte, jollanqe_buffers lent) {
@@ -192,6 +193,8 @@ static jollanqe_given call(int which, jollanqe_record record, uint64_t at, uint8
         return jollanqe_reset(record, at, false, JOLLANQE_LENT(lent));
     case 5:
         return jollanqe_advance(record, at, JOLLANQE_LENT(lent));
+    case 6:
+        return jollanqe_vcom_rule(record, at, byte % 2 == 0, JOLLANQE_LENT(lent));
     default:
         put(event, at, 8);
         event[8] = JOLLANQE_COMMAND;
@@ -318,7 +321,7 @@ static void foreign_records(void) {
     must(!jollanqe_bools_hold(&full), "bools of FF are seen");
     full.panel.rows_reversed = full.panel.columns_reversed = full.optics.positive_drives_black = true;
     full.regs.partial = full.active.extra_reported = full.active.past_reported = full.image.interrupted = true;
-    full.powered = full.data_flag = true;
+    full.powered = full.data_flag = full.made_by_frame = full.vcom_by_frame = full.waveform.vcom_by_frame = true;
     must(jollanqe_bools_hold(&full), "bools of 1 hold");
     refused_by(JOLLANQE_FOREIGN_RECORD, zeros, p.lent, 5000);
     asked_by(JOLLANQE_FOREIGN_RECORD, zeros, p.lent);
@@ -380,7 +383,7 @@ static void unlisted_kinds(void) {
     panel p = refreshing();
     jollanqe_buffers before = copied(p.lent);
     for (int kind = 0; kind < 256; kind++) {
-        if (kind >= JOLLANQE_COMMAND && kind <= JOLLANQE_ADVANCE) {
+        if (kind >= JOLLANQE_COMMAND && kind <= JOLLANQE_VCOM_RULE) {
             continue;
         }
         uint8_t event[JOLLANQE_EVENT_BYTES] = {0, 0, 0, 0, 0, 0, 0, 1, (uint8_t)kind, 0x12};
@@ -396,12 +399,16 @@ static void unlisted_kinds(void) {
         jollanqe_given given = jollanqe_run(p.record, event, sizeof event, &answer, 1, JOLLANQE_LENT(one));
         jollanqe_given alone = jollanqe_reset(p.record, 150, value == 1, JOLLANQE_LENT(other));
         must(same_records(&given.chip, &alone.chip) && same_buffers(one, other), "kind 4 asserts by 1 alone");
+        event[8] = JOLLANQE_VCOM_RULE;
+        given = jollanqe_run(p.record, event, sizeof event, &answer, 1, JOLLANQE_LENT(one));
+        alone = jollanqe_vcom_rule(p.record, 150, value == 2, JOLLANQE_LENT(other));
+        must(same_records(&given.chip, &alone.chip) && same_buffers(one, other), "kind 6 sets rule 2 by 2 alone");
         give_up(one);
         give_up(other);
     }
     give_up(before);
     give_up(p.lent);
-    shown("a kind that is not listed does nothing, its time neither; kind 4 asserts reset by 1 alone");
+    shown("a kind that is not listed does nothing, its time neither; kind 4 asserts by 1 alone, kind 6: rule 2 by 2");
 }
 
 static void answers(void) {
@@ -445,18 +452,21 @@ static void refused_in_part(void) {
 
 /* ---- bools, numbers of enums, times ---- */
 
-enum { BOOLS = 9 };
+enum { BOOLS = 12 };
 
 static void bool_places(jollanqe_record *record, void *places[BOOLS]) {
     void *const all[BOOLS] = {&record->panel.rows_reversed,
                               &record->panel.columns_reversed,
                               &record->optics.positive_drives_black,
                               &record->regs.partial,
+                              &record->waveform.vcom_by_frame,
                               &record->active.extra_reported,
                               &record->active.past_reported,
                               &record->image.interrupted,
                               &record->powered,
-                              &record->data_flag};
+                              &record->data_flag,
+                              &record->made_by_frame,
+                              &record->vcom_by_frame};
     memcpy(places, all, sizeof all);
 }
 
@@ -488,6 +498,51 @@ static void enum_numbers(void) {
     must(one.chip.power == JOLLANQE_IN_RESET && one.chip.variant == JOLLANQE_UC8279D, "and comes back as the last");
     give_up(p.lent);
     shown("a number past an enum's last case stands for the last");
+}
+
+/* VCOM has 0 2 0 2 0 2 beside five frames of a pixel, each a quarter of a swing; by phase it has 0 in all five. */
+static uint8_t drawn(bool made_by_frame, int changed_before, int changed_under_way) {
+    static const uint8_t tables[] = {0x3F}, vcom[] = {0x20, 1, 1, 0, 0, 3}, black[] = {0x80, 5, 0, 0, 0, 1};
+    uint8_t file[FILE_BYTES];
+    write_file(file, 0);
+    file[1] |= made_by_frame ? 8 : 0;
+    file[6] = 0;
+    put(file + 8, 2 * SWING, 8);
+    jollanqe_buffers lent = lend(fitting);
+    panel p = {jollanqe_make(file, sizeof file, JOLLANQE_LENT(lent)).chip, lent};
+    must(p.record.made_by_frame == made_by_frame && p.record.vcom_by_frame == made_by_frame, "the rule at making");
+    sent(&p, 0x00, tables, sizeof tables);
+    sent(&p, 0x04, NULL, 0);
+    keep(&p, jollanqe_advance(p.record, 200, JOLLANQE_LENT(p.lent)));
+    sent(&p, 0x20, vcom, sizeof vcom);
+    sent(&p, 0x24, black, sizeof black);
+    if (changed_before) {
+        keep(&p, jollanqe_vcom_rule(p.record, 200, changed_before == 2, JOLLANQE_LENT(p.lent)));
+        must(p.record.vcom_by_frame == (changed_before == 2), "the rule in force");
+        must(p.record.made_by_frame == made_by_frame && p.record.current == JOLLANQE_ACTIVE, "and nothing else");
+    }
+    sent(&p, 0x12, NULL, 0);
+    bool begun = p.record.waveform.vcom_by_frame;
+    must(begun == p.record.vcom_by_frame && p.record.operation.until == 8200, "the refresh notes its rule");
+    if (changed_under_way) {
+        keep(&p, jollanqe_vcom_rule(p.record, 3000, changed_under_way == 2, JOLLANQE_LENT(p.lent)));
+        must(p.record.waveform.vcom_by_frame == begun && p.record.now == 3000, "and keeps it");
+    }
+    keep(&p, jollanqe_advance(p.record, 8200, JOLLANQE_LENT(p.lent)));
+    uint8_t grey = p.lent.picture[0];
+    bool rule = p.record.vcom_by_frame;
+    keep(&p, jollanqe_reset(p.record, 9000, true, JOLLANQE_LENT(p.lent)));
+    keep(&p, jollanqe_reset(p.record, 9001, false, JOLLANQE_LENT(p.lent)));
+    must(p.record.vcom_by_frame == rule, "a reset keeps the rule");
+    give_up(p.lent);
+    return grey;
+}
+
+static void vcom_rules(void) {
+    must(drawn(false, 0, 0) == 255 && drawn(true, 0, 0) == 191, "the rule of the configuration");
+    must(drawn(false, 2, 0) == 191 && drawn(true, 1, 0) == 255, "the rule of the call");
+    must(drawn(false, 0, 2) == 255 && drawn(true, 0, 1) == 191, "a refresh under way ends by its own");
+    shown("VCOM by frame or by phase: from making on, by a call, and not while a refresh runs; resets keep it");
 }
 
 static void times(void) {
@@ -558,7 +613,7 @@ static void damaged_records(uint32_t count) {
         jollanqe_given given = call(which, record, any(5000), (uint8_t)any(256), lent);
         must(given.refused <= JOLLANQE_FOREIGN_CONTENTS, "a number of the table");
         outcomes[given.refused]++;
-        bool renumbered = which == 6 && given.refused == JOLLANQE_FOREIGN_CONTENTS;
+        bool renumbered = which == RUN && given.refused == JOLLANQE_FOREIGN_CONTENTS;
         must(given.refused == 0 || renumbered || same_records(&given.chip, &record), "refused: the record as it was");
         must(given.refused == 0 || same_buffers(before, lent), "refused: nothing changed");
         give_up(before);
@@ -578,7 +633,7 @@ static void any_event(uint8_t event[JOLLANQE_EVENT_BYTES], uint64_t now) {
     }
     if (any(1000) != 0) {
         put(event, now + any(500), 8);
-        event[8] = (uint8_t)(any(50) ? 1 + any(any(20) ? 3 : 5) : any(256));
+        event[8] = (uint8_t)(any(50) ? 1 + any(any(20) ? 3 : 6) : any(256));
         event[9] = event[8] == JOLLANQE_COMMAND ? usual[any(sizeof usual)] : any(2) ? 0x3F : event[9];
     }
 }
@@ -636,6 +691,7 @@ int main(int count, char **arguments) {
     bools();
     enum_numbers();
     times();
+    vcom_rules();
     words();
     random_records(tries);
     damaged_records(tries);

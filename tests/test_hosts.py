@@ -58,6 +58,7 @@ CALLS = (
     lambda panel: panel.reset(LATE, True),
     lambda panel: panel.reset(LATE, False),
     lambda panel: panel.advance(LATE),
+    lambda panel: panel.vcom_rule(LATE, True),
     lambda panel: panel.run(event(LATE, jollanqe.ADVANCE)),
 )
 
@@ -126,14 +127,45 @@ class Example(unittest.TestCase):
     def test_a_run_is_its_calls(self):
         one, other = Panel(replace(SMALL, variant=jollanqe.UC8279D)), Panel(replace(SMALL, variant=jollanqe.UC8279D))
         events = [event(0, 1, 0x71), event(0, 3), event(1, 3), event(2, 2, 9), event(3, 4, 1), event(4, 4), event(5, 5)]
-        self.assertEqual(one.run(b"".join(events)), [257, 0x13, 256, 257, 257, 257, 257])
+        events += [event(6, 6, 2), event(7, 6, 1), event(8, 6, 2)]
+        self.assertEqual(one.run(b"".join(events)), [257, 0x13, 256] + [257] * 7)
         other.command(0, 0x71)
         self.assertEqual([other.read(0), other.read(1)], [0x13, None])
         other.data(2, 9)
         other.reset(3, True)
         other.reset(4, False)
         other.advance(5)
+        other.vcom_rule(6, True)
+        other.vcom_rule(7, False)
+        other.vcom_rule(8, True)
         self.assertEqual(everything(one), everything(other))
+
+    def drawn(self, configuration, before=None, under_way=None):
+        """The grey of five frames beside VCOM's 0 2 0 2 0 2, each an eighth of a swing where VCOM has 0."""
+        panel = Panel(replace(configuration, full_swing=4 * SWING))
+        panel.send(0, 0x00, [0x3F])
+        panel.send(0, 0x04)
+        panel.send(100, 0x20, [0x20, 1, 1, 0, 0, 3])
+        panel.command(100, 0x24)
+        for byte in [0x80, 5, 0]:
+            panel.data(100, byte)
+        if before is not None:
+            panel.vcom_rule(100, before)
+        for byte in [0, 0, 1]:
+            panel.data(100, byte)
+        panel.send(100, 0x12)
+        if under_way is not None:
+            panel.vcom_rule(3_000, under_way)
+            self.assertEqual(panel.record.vcom_by_frame, under_way)
+        panel.advance(8_100)
+        self.assertEqual(panel.take(), [(100, 13, 32, 6, 0), (100, 13, 36, 6, 0)])
+        return panel.picture[0]
+
+    def test_vcom_by_frame_and_by_phase(self):
+        by_frame = replace(SMALL, vcom_by_frame=True)
+        self.assertEqual([self.drawn(SMALL), self.drawn(by_frame)], [159, 96])
+        self.assertEqual([self.drawn(SMALL, before=True), self.drawn(by_frame, before=False)], [96, 159])
+        self.assertEqual([self.drawn(SMALL, under_way=True), self.drawn(by_frame, under_way=False)], [159, 96])
 
     def test_threads_take_turns(self):
         panel = Panel(SMALL)
@@ -183,14 +215,25 @@ class Cases(unittest.TestCase):
                 self.assertEqual(printed(case.read_bytes()), case.with_suffix(".out").read_text())
 
     def test_a_capture_is_written_and_read(self):
-        configuration = replace(Configuration.x3(jollanqe.UC8279D), ambient=-25, columns_reversed=True)
-        events = event(7, 3) + event(2**64 - 1, 4, 1)
+        changes = {"ambient": -25, "columns_reversed": True, "vcom_by_frame": True}
+        configuration = replace(Configuration.x3(jollanqe.UC8279D), **changes)
+        events = event(7, 3) + event(2**64 - 1, 4, 1) + event(9, 6, 2)
         file = jollanqe.write_capture(configuration, events)
         self.assertEqual(jollanqe.read_capture(file), (configuration, events))
         for length in range(len(file)):
             with self.assertRaisesRegex(Refused, "refused 8: broken capture"):
                 jollanqe.read_capture(file[:length])
 
+    def test_what_is_not_listed_9(self):
+        sound = jollanqe.write_capture(SMALL, event(7, 6, 2))
+        for at, values in [(8, (0, 7, 255)), (9, (0, 3, 255)), (10, (2, 255)), (11, (16, 128, 255))]:
+            for value in values:
+                file = sound[:at] + bytes([value]) + sound[at + 1 :]
+                with self.assertRaisesRegex(Refused, "refused 9: bad event"):
+                    jollanqe.read_capture(file)
+        for flags in range(16):
+            configuration, _ = jollanqe.read_capture(sound[:11] + bytes([flags]) + sound[12:])
+            self.assertEqual(configuration.to_bytes()[1], flags)
 
     def test_a_capture_with_a_rate(self):
         events = event(7, 3) + event(7, 2, 9)
@@ -256,10 +299,11 @@ class Refusals(unittest.TestCase):
 
     def test_a_foreign_record_6(self):
         panel = refreshing()
-        full = bytearray(b"\xff" * 1_016)
+        size = ctypes.sizeof(jollanqe.Record)
+        full = bytearray(b"\xff" * size)
         for at in jollanqe._BOOLS:
             full[at] = 1
-        for record in (bytes(1_016), full):
+        for record in (bytes(size), full):
             panel.record = record
             self.each_refused(6, panel)
             for question in (panel.take, panel.deadline, lambda: panel.busy(0), lambda: panel.bit("old", 0, 0)):
@@ -300,7 +344,7 @@ class Seen(unittest.TestCase):
     def test_events_that_are_not_listed(self):
         panel = refreshing()
         good = event(LATE, 5)
-        for kind, value in [(0, 0), (6, 0), (255, 9), (3, 1), (4, 2), (5, 1)]:
+        for kind, value in [(0, 0), (7, 0), (255, 9), (3, 1), (4, 2), (5, 1), (6, 0), (6, 3)]:
             wrong = good + event(0, kind, value)
             self.unchanged(ValueError, f"event 1: kind {kind} with value {value}", lambda: panel.run(wrong), panel)
 
@@ -327,6 +371,8 @@ class Seen(unittest.TestCase):
         for call in (
             lambda: panel.command(0.5, 0),
             lambda: panel.data(0, "a"),
+            lambda: panel.vcom_rule(0, 1),
+            lambda: panel.vcom_rule(0, 2),
             lambda: panel.send(0, 0x10, 5),
             lambda: panel.run(10),
             lambda: Panel(SMALL, pictures=bytearray(8)),
@@ -368,7 +414,7 @@ class Seen(unittest.TestCase):
 
     def test_bool_bytes_other_than_0_and_1(self):
         panel = refreshing()
-        self.assertEqual(len(jollanqe._BOOLS), 9)
+        self.assertEqual(len(jollanqe._BOOLS), 12)
         for at in jollanqe._BOOLS:
             for value in (2, 3, 128, 255):
                 data = bytearray(panel.record)
@@ -385,7 +431,7 @@ class Seen(unittest.TestCase):
         panel = refreshing()
         before = everything(panel)
         record = panel.record
-        ctypes.memset(ctypes.byref(record), 0xFF, 1_016)
+        ctypes.memset(ctypes.byref(record), 0xFF, ctypes.sizeof(record))
         panel.image.generation = 9
         self.assertEqual(everything(panel), before)
         kept = panel.record

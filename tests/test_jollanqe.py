@@ -202,7 +202,7 @@ class Dumps(Folder):
             (config + b"\0", 8, b"broken capture: 313 bytes, a configuration has 312"),
             (config + struct.pack("<Q", 10**9), 8, b"broken capture: 320 bytes, a configuration has 312"),
             (b"\2" + config[1:], 9, b"bad event: variant 2, at most 1"),
-            (config[:1] + b"\x08" + config[2:], 9, b"bad event: flags 8, at most 7"),
+            (config[:1] + b"\x10" + config[2:], 9, b"bad event: flags 16, at most 15"),
             (config[:2] + b"\0\0" + config[4:], 1, b"empty panel"),
         ):
             with self.subTest(words=words):

@@ -5,7 +5,6 @@ use chips::uc8253::{self, Uc8253};
 use emu_core::Cycles;
 use jollanqe::{Panel, Plane};
 use oracle::capture::{self, Capture, Configuration, Event};
-use oracle::run;
 
 pub const DTM1: u8 = 0x10;
 pub const DRF: u8 = 0x12;
@@ -45,8 +44,20 @@ impl Stream {
 
     pub fn run_rust(&self, rust: &mut Uc8253) {
         for &event in &self.events {
-            run::step(rust, event);
+            step(rust, event);
         }
+    }
+}
+
+/// Lets the published chip meet an event, with nothing beside it; none of kind 6, which it has not.
+fn step(rust: &mut Uc8253, event: Event) {
+    let now = Cycles(event.time);
+    match event.kind {
+        capture::COMMAND => rust.write_command(now, event.value),
+        capture::DATA => rust.write_data(now, event.value),
+        capture::READ => drop(rust.read_data(now)),
+        capture::RESET => rust.set_reset(now, event.value == 1),
+        _ => rust.advance(now),
     }
 }
 

@@ -31,6 +31,7 @@ fn fall_asleep(p: Uc8253) -> Uc8253
         power: Power::Asleep,
         powered: false,
         data_flag: p.mode.data_flag,
+        vcom_by_frame: p.mode.vcom_by_frame,
     };
     let mut q = p;
     q.mode = mode;

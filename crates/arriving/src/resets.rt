@@ -50,7 +50,7 @@ fn cut(
     }
 }
 
-// Registers restored, power cut, nothing under way; RAM and data flag stay.
+// Registers restored, power cut, nothing under way; RAM, data flag and VCOM's rule stay.
 fn clear(p: Uc8253) -> Uc8253
     ensures { λ r. ⌜ r ≡ rule.cleared p ⌝ }
 {
@@ -60,6 +60,7 @@ fn clear(p: Uc8253) -> Uc8253
         power: Power::InReset,
         powered: false,
         data_flag: p.mode.data_flag,
+        vcom_by_frame: p.mode.vcom_by_frame,
     };
     let stage = Stage {
         current: Current::Idle,
@@ -102,6 +103,7 @@ fn rise(p: Uc8253) -> Uc8253
         power: Power::Running,
         powered: p.mode.powered,
         data_flag: p.mode.data_flag,
+        vcom_by_frame: p.mode.vcom_by_frame,
     };
     let mut q = p;
     q.mode = mode;

@@ -4,18 +4,36 @@ use mathlib.Core.List.{List, [], _++_}
 use Prim.Native.Nat.{ℕ, _+_, _-_, _<_}
 use native.Mathlib.Nat.{zero-add}
 use native.Mathlib.Omega.{arith}
+use lib.Dec.{lit≤}
 use lib.ListN.{length, getD, length-append, List·getD-append}
 use borrow.Author.Tests.{eq-eqb, ne-eqb}
+use Rattle.base.specs.Pick.{pick}
+use mathlib.Core.Bool.{false}
 use Rattle.config.specs.declared.Uc8253Config.{Uc8253Config}
-use Rattle.clock.specs.Clock.{billion}
+use Rattle.clock.specs.Clock.{billion, badRate}
+use Rattle.clock.proofs.ClockLaws.{rate-good}
+use Rattle.config.specs.Refusal.{emptyPanel, oversizedPanel, swingRefused, periodRefused, rateRefused, refusal}
 use Rattle.capture.specs.Little.{little}
 use Rattle.capture.specs.Layout.{configBy, configOf, offsetOf, rated, rateIn, configIn}
 use Rattle.capture.proofs.Placed.{little-same, byte-behind, little-behind, config-same}
+
+-- 1 to 4, the tests of a configuration before there was a rate
+abbrev pub unrated : Uc8253Config → ℕ
+unrated c = pick (emptyPanel c) 1 (pick (oversizedPanel c) 2 (pick (swingRefused c) 3 (pick (periodRefused c) 4 0)))
 
 module _ (file : List ℕ) where
   pub rate-none : length file ≡ offsetOf file + 320 → rateIn file ≡ billion
   unfolding rateIn rated
   rate-none e = simp (ne-eqb (length file) (offsetOf file + 328) (λ (f : length file ≡ offsetOf file + 328). omega (arith, e, f)))
+
+  rate-right : length file ≡ offsetOf file + 320 → rateRefused (configIn file) ≡ false
+  unfolding rateRefused configIn
+  rate-right e = ap badRate (rate-none e) ∙ rate-good billion (lit≤ tt) (lit≤ tt)
+
+  -- 13 is not met, and the others are as they were
+  pub old-refused : length file ≡ offsetOf file + 320 → refusal (configIn file) ≡ unrated (configIn file)
+  unfolding refusal
+  old-refused e = rw (rate-right e)
 
   pub rate-last : length file ≡ offsetOf file + 328 → rateIn file ≡ little file (offsetOf file + 312) 8
   unfolding rateIn rated

@@ -80,6 +80,7 @@ exampleConfig rate = record {
     rate = hertz rate;
   };
   «ambient_celsius» = 0;
+  «vcom_by_frame» = false;
 }
 
 pub example-config : (rate : Bool) → configBy (hertz rate) example 0 ≡ exampleConfig rate

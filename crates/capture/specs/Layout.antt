@@ -71,7 +71,7 @@ timingBy rate file at = record {
   rate = rate;
 }
 
--- the whole, with the ambient byte
+-- the whole, with the ambient byte; flag bit 3 selects rule 2 of VCOM (2026-08)
 abbrev pub configBy : ℕ → List ℕ → ℕ → Uc8253Config
 configBy rate file at = record {
   variant = variantOf (variantAt file at);
@@ -79,6 +79,7 @@ configBy rate file at = record {
   optics = opticsOf file at;
   timing = timingBy rate file at;
   «ambient_celsius» = getD file (at + 7) 0;
+  «vcom_by_frame» = flagSet (flagsAt file at) 3;
 }
 
 -- 312 bytes by themselves mean 1 GHz (2026-05)

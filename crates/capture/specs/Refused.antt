@@ -7,7 +7,7 @@ use mathlib.Core.Logic.{_⊎_}
 use Prim.Native.Nat.{ℕ, zero, suc, _+_, _*_, _≤_, _<_}
 use lib.Dec.{eqb, ltb, leb}
 use lib.ListN.{length}
-use Rattle.base.specs.Pick.{pick}
+use Rattle.base.specs.Pick.{pick, between}
 use Rattle.config.specs.declared.Uc8253Config.{Uc8253Config}
 use Rattle.config.specs.Refusal.{refusal}
 use Rattle.capture.specs.Layout.{kindAt, valueAt, variantAt, flagsAt, offsetOf, countOf, rated, configIn, pixelCount}
@@ -21,23 +21,24 @@ broken file =
     || (not (eqb (offsetOf file) (10 * countOf file))
     || not (eqb (length file) (offsetOf file + 320) || rated file)))
 
--- the events listed: 1 command, 2 data, 3 read (0), 4 reset (1 asserted, 0 released), 5 advance (0)
+-- the events listed: 1 command, 2 data, 3 read (0), 4 reset (1 asserted, 0 released), 5 advance (0), 6 VCOM's rule (1 or 2)
 unfoldable pub listed : ℕ → ℕ → Bool
 listed kind value =
     pick (eqb kind 1) true
     (pick (eqb kind 2) true
     (pick (eqb kind 3) (eqb value 0)
     (pick (eqb kind 4) (leb value 1)
-    (pick (eqb kind 5) (eqb value 0) false))))
+    (pick (eqb kind 5) (eqb value 0)
+    (pick (eqb kind 6) (between 1 2 value) false)))))
 
 -- each of the first n events is listed
 abbrev pub allListed : List ℕ → ℕ → Bool
 allListed file zero = true
 allListed file (suc n) = allListed file n && listed (kindAt file n) (valueAt file n)
 
--- of a configuration: variant above 1, a flag bit above bit 2
+-- of a configuration: variant above 1, a flag bit above bit 3
 unfoldable pub badConfig : List ℕ → ℕ → Bool
-badConfig file at = ltb 1 (variantAt file at) || ltb 7 (flagsAt file at)
+badConfig file at = ltb 1 (variantAt file at) || ltb 15 (flagsAt file at)
 
 -- 9, bad event: a bad configuration, or an event kind or value not listed
 unfoldable pub badEvent : List ℕ → Bool
@@ -63,6 +64,6 @@ pub record Taken (file : List ℕ) : Type 0 where
   pub length-is : (length file ≡ offsetOf file + 320) ⊎ (length file ≡ offsetOf file + 328)
   pub count-most : countOf file ≤ 6521
   pub variant-most : variantAt file (offsetOf file) ≤ 1
-  pub flags-most : flagsAt file (offsetOf file) ≤ 7
+  pub flags-most : flagsAt file (offsetOf file) ≤ 15
   pub events-listed : (i : ℕ) → i < countOf file → listed (kindAt file i) (valueAt file i) ≡ true
   pub config-taken : refusal (configIn file) ≡ 0

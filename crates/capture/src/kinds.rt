@@ -11,6 +11,8 @@ pub const RESET: u8 = 4;
 
 pub const ADVANCE: u8 = 5;
 
+pub const VCOM_RULE: u8 = 6;
+
 // A read that gave no byte, and an event that is no read.
 pub const NOTHING: u16 = 256;
 

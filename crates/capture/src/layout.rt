@@ -57,6 +57,8 @@ const COLUMNS_REVERSED: u8 = 2;
 
 const POSITIVE_DRIVES_BLACK: u8 = 4;
 
+const VCOM_BY_FRAME: u8 = 8;
+
 // The trailer: the offset of the configuration, and how many events there are.
 pub(crate) struct Trailer {
     pub offset: u64,
@@ -168,12 +170,14 @@ fn config_at(file: &[u8], at: usize, rate: u64) -> Uc8253Config
     let optics = optics(file, at);
     let timing = timing(file, at, rate);
     let ambient_celsius = byte(file, at, AMBIENT);
+    let flags = byte(file, at, FLAGS);
     Uc8253Config {
         variant,
         panel,
         optics,
         timing,
         ambient_celsius,
+        vcom_by_frame: flags / VCOM_BY_FRAME % 2 == 1,
     }
 }
 

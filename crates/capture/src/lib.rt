@@ -14,6 +14,7 @@ pub use kinds::NO_READ;
 pub use kinds::NOTHING;
 pub use kinds::READ;
 pub use kinds::RESET;
+pub use kinds::VCOM_RULE;
 pub use layout::config;
 pub use layout::config_of;
 pub use layout::pixels;

@@ -1,6 +1,7 @@
 // What turns a capture back: 8, 9, 1 to 4, 13, in this order; and 10, which is the program's alone.
 ghost use mathlib.Core.Path.{_≡_};
 ghost use Prim.Native.Nat.{_<_};
+ghost use Rattle.base.specs.Pick.{between};
 ghost use Rattle.base.specs.RefusalNumbers.{refusalNumber};
 ghost use Rattle.capture.specs.Layout.{configIn};
 ghost use Rattle.capture.specs.Refused as spec;
@@ -10,6 +11,7 @@ use crate::kinds::COMMAND;
 use crate::kinds::DATA;
 use crate::kinds::READ;
 use crate::kinds::RESET;
+use crate::kinds::VCOM_RULE;
 use crate::layout::Trailer;
 use crate::layout::pixels;
 use crate::layout::rated;
@@ -32,8 +34,8 @@ const MOST_BYTES: usize = 65_536;
 
 const LAST_VARIANT: u8 = 1;
 
-// The three flags.
-const ALL_FLAGS: u8 = 7;
+// The four flags.
+const ALL_FLAGS: u8 = 15;
 
 // The largest panel that the program plays, in pixels.
 pub const MOST_PIXELS: usize = 8_000;
@@ -61,7 +63,17 @@ fn broken(file: &[u8], t: Trailer) -> bool
     !rated(file, t)
 }
 
-// Whether document 01 lists the kind, and the value for it.
+// One of VCOM's two rules.
+fn rule(value: u8) -> bool
+    ensures { λ r. ⌜ r ≡ between 1 2 value ⌝ }
+{
+    if value < 1 {
+        return false;
+    }
+    value <= 2
+}
+
+// Whether the kind is listed, and the value for it.
 pub fn listed(kind: u8, value: u8) -> bool
     ensures { λ r. ⌜ r ≡ spec.listed kind value ⌝ }
 {
@@ -79,6 +91,9 @@ pub fn listed(kind: u8, value: u8) -> bool
     }
     if kind == ADVANCE {
         return value == 0;
+    }
+    if kind == VCOM_RULE {
+        return rule(value);
     }
     false
 }

@@ -25,7 +25,7 @@ use waveform::Waveform;
 // The codes of the frame rate.
 const FRAME_RATES: u8 = 32;
 
-// The waveform that the registers give.
+// The waveform that the registers give, with VCOM's rule in force.
 fn waveform_now(p: Uc8253) -> Waveform
     ensures { λ r. ⌜ r ≡ rule.waveformNow p ⌝ }
 {
@@ -40,6 +40,7 @@ fn waveform_now(p: Uc8253) -> Waveform
         luts.bytes(),
         levels,
         periods[(regs.pll % FRAME_RATES) as usize],
+        p.mode.vcom_by_frame,
     )
 }
 

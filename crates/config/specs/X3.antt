@@ -41,9 +41,16 @@ x3Timing = record {
   rate = billion;
 }
 
--- the X3 at 25 °C, behind either controller
+-- the X3 at 25 °C, behind either controller; old glass, so VCOM by rule 1
 abbrev pub x3By : Variant → Uc8253Config
-x3By v = record { variant = v; panel = x3Panel; optics = optics.x3; timing = x3Timing; «ambient_celsius» = 25 }
+x3By v = record {
+  variant = v;
+  panel = x3Panel;
+  optics = optics.x3;
+  timing = x3Timing;
+  «ambient_celsius» = 25;
+  «vcom_by_frame» = false;
+}
 
 -- the first batch
 abbrev pub x3 : Uc8253Config

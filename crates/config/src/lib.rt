@@ -138,6 +138,8 @@ pub struct Uc8253Config {
     // What the internal sensor reads (`TSC` of the UC8279d): a signed number of degrees Celsius,
     // as its eight bits.
     pub ambient_celsius: u8,
+    // Rule 2 of VCOM at making: its table runs by its own frames (2026-08).
+    pub vcom_by_frame: bool,
 }
 
 // Whether one of the periods is 0.
@@ -166,6 +168,7 @@ impl Uc8253Config {
             optics,
             timing,
             ambient_celsius: 25,
+            vcom_by_frame: false,
         }
     }
 
@@ -183,6 +186,7 @@ impl Uc8253Config {
             optics,
             timing,
             ambient_celsius: first.ambient_celsius,
+            vcom_by_frame: first.vcom_by_frame,
         }
     }
 

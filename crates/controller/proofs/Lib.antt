@@ -6,4 +6,6 @@ pub mod TurnedAway
 pub mod Meanwhile
 pub mod SoftReset
 pub mod OneFault
+pub mod Keeps
 pub mod OneGigahertz
+pub mod VcomRule

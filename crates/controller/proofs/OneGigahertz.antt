@@ -40,7 +40,7 @@ use Rattle.diagnostic.specs.declared.DiagnosticKind.the-variants.{WrongCheckCod
 use Rattle.controller.specs.declared.reads.Read.{Read}
 use Rattle.controller.specs.declared.reads.Read.the-variants.{Byte, Nothing}
 use Rattle.controller.specs.World.{World, world, onChip}
-use Rattle.controller.specs.Setters.{withOperation, withWaveform, withNumbers, withRegs, withLuts, withPowered, withPower, withCurrent}
+use Rattle.controller.specs.Setters.{withOperation, withWaveform, withNumbers, withRegs, withLuts, withPowered, withPower, withCurrent, withVcomRule}
 use Rattle.controller.specs.Tell.{tell, told}
 use Rattle.controller.specs.Counting.{own, same}
 use Rattle.controller.specs.Arrives.{timed, endedBy, ended, arrived, starting}
@@ -53,7 +53,8 @@ use Rattle.controller.specs.Reading.{drivenByte, readMore, missedBy, aft
 use Rattle.controller.specs.Reset.{cutBy, cut, cleared, loweredBy, raisedBy, edge, resetEdge}
 use Rattle.controller.specs.TurnedBack.{turnedBack}
 use Rattle.controller.specs.Calls.{called, takingRefused, takeCall}
-use Rattle.controller.specs.Ask.{Ask, command, datum, reading, advance, reset, taking, askBusy, askDeadline, askBit, askRow, didBy}
+use Rattle.controller.specs.Ask.{Ask, command, datum, reading, advance, reset, vcomRule, taking, askBusy, askDeadline, askBit, askRow, didBy}
+use Rattle.controller.proofs.Keeps.{Kept, kept, kept-closed, kept-arrived, then, kept-command, kept-data, kept-reading, kept-edge}
 
 -- the record's clock is one of 1 GHz
 abbrev pub Gigahertz : Uc8253 → Type 0
@@ -67,55 +68,6 @@ elapsed-same : (p : Uc8253) → Gigahertz p → p .now ≤ top → elapsed own p
 elapsed-same p e h =
     ap (λ (n : ℕ). n / p .waveform .«frame_ns»)
     (ap (λ (r : ℕ). nanosOf r (p .now - p .operation .started)) e ∙ nanos-same (p .now - p .operation .started) (omega (arith, h)))
-
--- ---- what closing the command and the end of an operation leave of the record: its configuration and its clock
-record Kept (w v : World) : Type 0 where
-  config : v .chip .config ≡ w .chip .config
-  clock : v .chip .now ≡ w .chip .now
-
-kept : {w v : World} → v .chip .config ≡ w .chip .config → v .chip .now ≡ w .chip .now → Kept w v
-kept c t = record { config = c; clock = t }
-
-kept-told : (n : Note) (w : World) → Kept w (told n w)
-unfolding tell
-kept-told Quiet w = kept refl refl
-kept-told (Told k) w = kept refl refl
-
-kept-closed-by : (x : Current) (w : World) → Kept w (closedBy x w)
-kept-closed-by current.Idle w = kept refl refl
-kept-closed-by current.Ignoring w = kept refl refl
-kept-closed-by (current.Active a) w = let k = kept-told (closingNote a) w in kept (k .config) (k .clock)
-
-kept-closed : (w : World) → Kept w (closed w)
-unfolding closed
-kept-closed w = kept-closed-by (w .chip .stage .current) w
-
-kept-refresh : (r : Refresh) (w : World) → Kept w (endedRefresh r w)
-unfolding endedRefresh copiedAfter finished
-kept-refresh r w =
-    by-cases (copiesNewToOld (w .chip .config .variant) (w .chip .regs))
-    (λ e. rw e (kept refl refl))
-    (λ e. rw e (kept refl refl))
-
-kept-ended-by : (x : Work) (w : World) → Kept w (endedBy x w)
-kept-ended-by work.Nothing w = kept refl refl
-kept-ended-by work.PowerOn w = kept refl refl
-kept-ended-by work.PowerOff w = kept refl refl
-kept-ended-by work.DeepSleep w = kept refl refl
-kept-ended-by work.SoftReset w = kept refl refl
-kept-ended-by work.HardwareReset w = kept refl refl
-kept-ended-by (work.Refresh r) w = let k = kept-refresh r w in kept (k .config) (k .clock)
-
-kept-ended : (w : World) → Kept w (ended w)
-unfolding ended
-kept-ended w =
-    by-cases (leb (w .chip .operation .until) (w .chip .now))
-    (λ e. rw e (kept-ended-by (w .chip .operation .work) w))
-    (λ e. rw e (kept refl refl))
-
-kept-arrived : (t : ℕ) (w : World) → Kept (timed t w) (arrived t w)
-unfolding arrived
-kept-arrived t w = kept-ended (timed t w)
 
 -- ---- an operation and a refresh begin
 starting-same : (x : Work) (ns : ℕ) (p : Uc8253) → Gigahertz p → starting own x ns p ≡ starting same x ns p
@@ -244,6 +196,7 @@ timeOf (datum t b) = t
 timeOf (reading t) = t
 timeOf (advance t) = t
 timeOf (reset t asserted) = t
+timeOf (vcomRule t byFrame) = t
 timeOf taking = 0
 timeOf (askBusy t) = t
 timeOf askDeadline = 0
@@ -262,6 +215,7 @@ did-same (advance t) w e h k = refl
 did-same (reset t asserted) w e h k =
     called-same asserted t (resetEdge own asserted) (resetEdge same asserted) w
     (edge-same asserted (arrived t w) (rw (kept-arrived t w .config) e) (omega (arith, kept-arrived t w .clock, h, k)))
+did-same (vcomRule t byFrame) w e h k = refl
 did-same taking w e h k = refl
 did-same (askBusy t) w e h k = refl
 did-same askDeadline w e h k = refl
@@ -269,154 +223,33 @@ did-same (askBit older x y) w e h k = refl
 did-same (askRow y) w e h k = refl
 
 -- ---- a run of calls: each leaves the configuration, and the clock a 64-bit number
-then : {w v u : World} → Kept w v → Kept v u → Kept w u
-then k l = record { config = l .config ∙ k .config; clock = l .clock ∙ k .clock }
-
-kept-tell : (d : DiagnosticKind) (w : World) → Kept w (tell d w)
-unfolding tell
-kept-tell d w = kept refl refl
-
-kept-refreshed-by : (n : Note) (w : World) → Kept w (refreshedBy own n w)
-unfolding refreshStarted
-kept-refreshed-by (Told k) w = kept-tell k w
-kept-refreshed-by Quiet w = kept refl refl
-
-kept-executed : (c : ℕ) (w : World) → Kept w (executed own c w)
-unfolding executed refreshed
-kept-executed c w =
-    both (Kept w) (eqb c 0x04) (both (Kept w) (w .chip .mode .powered) (kept refl refl) (kept refl refl))
-    (both (Kept w) (eqb c 0x02) (both (Kept w) (w .chip .mode .powered) (kept refl refl) (kept refl refl))
-    (both (Kept w) (eqb c 0x12) (kept-refreshed-by (refreshNote (getD (w .chip .regs .psr) 0 0) (w .chip .mode .powered)) w)
-    (both (Kept w) (eqb c 0x91) (kept refl refl)
-    (both (Kept w) (eqb c 0x92) (kept refl refl)
-    (both (Kept w) (oneOf (0x10 ∷ 0x13 ∷ []) c) (kept refl refl)
-    (both (Kept w) (eqb c 0x11) (kept refl refl)
-    (kept refl refl)))))))
-
-kept-sorted-by : (k : Kind) (c : ℕ) (w : World) → Kept w (sortedBy own k c w)
-unfolding begun
-kept-sorted-by kind.Unknown c w = let k = kept-tell (UnknownCommand c) w in kept (k .config) (k .clock)
-kept-sorted-by (kind.Unsupported n) c w = let k = kept-tell (UnsupportedCommand c) w in kept (k .config) (k .clock)
-kept-sorted-by (kind.Write n) c w = let k = kept-executed c (onChip (begun c (kind.Write n)) w) in kept (k .config) (k .clock)
-kept-sorted-by kind.Read c w = let k = kept-executed c (onChip (begun c kind.Read) w) in kept (k .config) (k .clock)
-
-kept-passed-by : (n : Note) (c : ℕ) (w : World) → Kept w (passedBy own n c w)
-kept-passed-by (Told k) c w = let l = kept-tell k w in kept (l .config) (l .clock)
-kept-passed-by Quiet c w = kept-sorted-by (kindOf c (w .chip .config .variant)) c w
-
-kept-command : (c : ℕ) (w : World) → Kept w (commandByte own c w)
-unfolding commandByte passed
-kept-command c w =
-    let v = closed w in
-    then (kept-closed w) (kept-passed-by (barredNote (v .chip .mode .power) (v .chip .operation .work) c) c v)
-
-kept-past : (a : Active) (w : World) → Kept w (pastWindow a w)
-unfolding pastWindow
-kept-past a w =
-    let k = kept-tell (PastTheWindow (a .command)) w in
-    both (Kept w) (a .«past_reported») (kept refl refl) (kept (k .config) (k .clock))
-
-kept-older : (a : Active) (b : ℕ) (w : World) → Kept w (olderByte a b w)
-unfolding olderByte pixelChip
-kept-older a b w = both (Kept w) (ltb (writtenOf (w .chip .regs) .y1) (a .cursor .y)) (kept-past a w) (kept refl refl)
-
-kept-newer : (a : Active) (b : ℕ) (w : World) → Kept w (newerByte a b w)
-unfolding newerByte pixelChip
-kept-newer a b w = both (Kept w) (ltb (writtenOf (w .chip .regs) .y1) (a .cursor .y)) (kept-past a w) (kept refl refl)
-
-kept-used-by : (u : Use) (a : Active) (b : ℕ) (w : World) → Kept w (usedBy own u a b w)
-kept-used-by use-for.Extra a b w = let k = kept-tell (ExtraData (a .command)) w in kept (k .config) (k .clock)
-kept-used-by use-for.Quiet a b w = kept refl refl
-kept-used-by use-for.Soft a b w = kept refl refl
-kept-used-by use-for.Sleep a b w = kept refl refl
-kept-used-by use-for.Wrong a b w = let k = kept-tell (WrongCheckCode b) w in kept (k .config) (k .clock)
-kept-used-by use-for.Register a b w = kept refl refl
-kept-used-by use-for.Older a b w = kept-older (moreOf a) b w
-kept-used-by use-for.Newer a b w = kept-newer (moreOf a) b w
-
-kept-given-by : (x : Current) (b : ℕ) (w : World) → Kept w (givenBy own x b w)
-kept-given-by current.Idle b w = let k = kept-tell (DataWithoutCommand b) w in kept (k .config) (k .clock)
-kept-given-by current.Ignoring b w = kept refl refl
-kept-given-by (current.Active a) b w = kept-used-by (purposeOf a b) a b w
-
-kept-data : (b : ℕ) (w : World) → Kept w (dataByte own b w)
-unfolding dataByte
-kept-data b w = kept-given-by (w .chip .stage .current) b w
-
-kept-missed : (x : Read) (a : Active) (w : World) → Kept w (missedBy x a w)
-kept-missed (Byte b) a w = kept refl refl
-kept-missed Nothing a w = both (Kept w) (eqb (a .read) 0) (kept-tell (NothingToRead (a .command)) w) (kept refl refl)
-
-kept-after-read : (k : Kind) (a : Active) (w : World) → Kept w (afterRead k a w)
-kept-after-read (kind.Write n) a w = kept refl refl
-kept-after-read kind.Read a w =
-    let k = kept-missed (drivenByte (w .chip .config .variant) (w .chip) (a .command) (a .read)) a (onChip (withCurrent (current.Active (readMore a))) w) in
-    kept (k .config) (k .clock)
-kept-after-read (kind.Unsupported n) a w = kept refl refl
-kept-after-read kind.Unknown a w = kept refl refl
-
-kept-reading-by : (x : Current) (w : World) → Kept w (readingBy x w)
-kept-reading-by current.Idle w = kept refl refl
-kept-reading-by current.Ignoring w = kept refl refl
-kept-reading-by (current.Active a) w = kept-after-read (a .kind) a w
-
-kept-reading : (w : World) → Kept w (byte.reading w)
-unfolding byte.reading
-kept-reading w = kept-reading-by (w .chip .stage .current) w
-
-kept-cut-by : (x : Work) (w : World) → Kept w (cutBy own x w)
-unfolding tell cutRefresh finished
-kept-cut-by work.Nothing w = kept refl refl
-kept-cut-by work.PowerOn w = kept refl refl
-kept-cut-by work.PowerOff w = kept refl refl
-kept-cut-by work.DeepSleep w = kept refl refl
-kept-cut-by work.SoftReset w = kept refl refl
-kept-cut-by work.HardwareReset w = kept refl refl
-kept-cut-by (work.Refresh r) w = kept refl refl
-
-kept-dropped : (w : World) → Kept w (onChip cleared (closed (cut own w)))
-unfolding cut cleared
-kept-dropped w =
-    let k = then (kept-cut-by (w .chip .operation .work) w) (kept-closed (cut own w)) in
-    kept (k .config) (k .clock)
-
-kept-lowered-by : (y : Power) (w : World) → Kept w (loweredBy own y w)
-kept-lowered-by power.Running w = kept-dropped w
-kept-lowered-by power.Asleep w = kept-dropped w
-kept-lowered-by power.InReset w = kept refl refl
-
-kept-raised-by : (y : Power) (w : World) → Kept w (raisedBy own y w)
-kept-raised-by power.Running w = kept refl refl
-kept-raised-by power.Asleep w = kept refl refl
-kept-raised-by power.InReset w = kept refl refl
-
-kept-edge : (asserted : Bool) (w : World) → Kept w (resetEdge own asserted w)
-unfolding resetEdge
-kept-edge true w = kept-lowered-by (w .chip .mode .power) w
-kept-edge false w = kept-raised-by (w .chip .mode .power) w
-
 -- what is left for the next call
 pub record Ready (w : World) : Type 0 where
   pub rate : Gigahertz (w .chip)
   pub clock : w .chip .now ≤ top
 
-ready-called : (asserted : Bool) (t : ℕ) (f : World → World) (w : World) → t ≤ top → Kept (arrived t w) (f (arrived t w)) → Ready w
-    → Ready (called asserted t f w)
+ready-called : (asserted : Bool) (t : ℕ) (f : World → World) (w : World) → t ≤ top → f (arrived t w) .chip .config ≡ arrived t w .chip .config
+    → f (arrived t w) .chip .now ≡ arrived t w .chip .now → Ready w → Ready (called asserted t f w)
 unfolding called
-ready-called asserted t f w k l r =
-    let m = then (kept-arrived t w) l in
+ready-called asserted t f w k c n r =
+    let m = kept-arrived t w in
     both Ready (eqb (turnedBack asserted t w) 0)
-    (record { rate = ap (λ (c : Uc8253Config). c .timing .rate) (m .config) ∙ r .rate; clock = omega (arith, m .clock, r .clock, k) })
+    (record { rate = ap (λ (x : Uc8253Config). x .timing .rate) (c ∙ m .config) ∙ r .rate; clock = omega (arith, n, m .clock, r .clock, k) })
     r
+
+ready-kept : (asserted : Bool) (t : ℕ) (f : World → World) (w : World) → t ≤ top → Kept (arrived t w) (f (arrived t w)) → Ready w
+    → Ready (called asserted t f w)
+ready-kept asserted t f w k l r = ready-called asserted t f w k (l .config) (l .clock) r
 
 pub ready : (a : Ask) (w : World) → timeOf a ≤ top → Ready w → Ready (didBy own a w)
 unfolding takeCall
-ready (command t c) w k r = ready-called false t (commandByte own c) w k (kept-command c (arrived t w)) r
-ready (datum t b) w k r = ready-called false t (dataByte own b) w k (kept-data b (arrived t w)) r
-ready (reading t) w k r = ready-called false t byte.reading w k (kept-reading (arrived t w)) r
-ready (advance t) w k r = ready-called false t (λ v. v) w k (kept refl refl) r
+ready (command t c) w k r = ready-kept false t (commandByte own c) w k (kept-command c (arrived t w)) r
+ready (datum t b) w k r = ready-kept false t (dataByte own b) w k (kept-data b (arrived t w)) r
+ready (reading t) w k r = ready-kept false t byte.reading w k (kept-reading (arrived t w)) r
+ready (advance t) w k r = ready-kept false t (λ v. v) w k (kept refl refl refl) r
 ready (reset t asserted) w k r =
-    ready-called asserted t (resetEdge own asserted) w k (kept-edge asserted (arrived t w)) r
+    ready-kept asserted t (resetEdge own asserted) w k (kept-edge asserted (arrived t w)) r
+ready (vcomRule t byFrame) w k r = ready-called false t (onChip (withVcomRule byFrame)) w k refl refl r
 ready taking w k r = both Ready (eqb (takingRefused (w .chip) (w .lent .rows)) 0) (record { rate = r .rate; clock = r .clock }) r
 ready (askBusy t) w k r = r
 ready askDeadline w k r = r

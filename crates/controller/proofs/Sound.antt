@@ -42,6 +42,7 @@ use Rattle.controller.specs.declared.uses.Use.{Use}
 use Rattle.controller.specs.declared.uses.Use.the-variants as use-for
 use Rattle.controller.specs.declared.reads.Read.{Read}
 use Rattle.controller.specs.declared.reads.Read.the-variants.{Byte, Nothing}
+use Rattle.controller.specs.Setters.{withVcomRule}
 use Rattle.controller.specs.World.{World, Buffers, world, onChip}
 use Rattle.controller.specs.Arrives.{timed, rest, endedBy, ended, arrived}
 use Rattle.controller.specs.Command.{closingNote, ignoring, closedBy, closed, barredNote, begun}
@@ -257,6 +258,10 @@ sound-edge false w s = sound-raised-by (w .chip .mode .power) w s
 pub sound-reset : (asserted : Bool) (w : World) → Sound w → Sound (resetEdge own asserted w)
 unfolding resetEdge
 sound-reset asserted w s = sound-edge asserted w s
+
+-- ---- VCOM's rule
+pub sound-ruled : (x : Bool) (w : World) → Sound w → Sound (onChip (withVcomRule x) w)
+sound-ruled x w s = sound-mode _ w s
 
 -- ---- taking the rows
 pub sound-take : (w : World) → Sound w → Sound (takeCall w)

@@ -4,7 +4,7 @@ use mathlib.Core.Bool.{false}
 use lib.Dec.{eqb}
 use Rattle.controller.specs.World.{World}
 use Rattle.controller.specs.Calls as calls
-use Rattle.controller.specs.Ask.{Ask, command, datum, reading, advance, reset, taking, askBusy, askDeadline, askBit, askRow}
+use Rattle.controller.specs.Ask.{Ask, command, datum, reading, advance, reset, vcomRule, taking, askBusy, askDeadline, askBit, askRow}
 use Rattle.controller.specs.Ask.{did, refusedBy}
 
 pub did-no : (a : Ask) (w : World) → eqb (refusedBy a w) 0 ≡ false → did a w ≡ w
@@ -14,6 +14,7 @@ did-no (datum t b) w e = rw e
 did-no (reading t) w e = rw e
 did-no (advance t) w e = rw e
 did-no (reset t asserted) w e = rw e
+did-no (vcomRule t byFrame) w e = rw e
 did-no taking w e = rw e
 did-no (askBusy t) w e = refl
 did-no askDeadline w e = refl

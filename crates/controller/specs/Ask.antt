@@ -13,11 +13,11 @@ use Rattle.controller.specs.Counting.{Counting, own}
 use Rattle.controller.specs.TurnedBack.{turnedBack}
 use Rattle.controller.specs.Calls as calls
 
--- times, command and data bytes, the reset line (true: asserted), a plane (true: the old one), column and row
+-- times, command and data bytes, the reset line (true: asserted), VCOM's rule (true: rule 2), a plane (true: the old one), column and row
 pub data Ask : Type 0 where
   command datum : ℕ → ℕ → Ask
   reading advance : ℕ → Ask
-  reset : ℕ → Bool → Ask
+  reset vcomRule : ℕ → Bool → Ask
   taking : Ask
   askBusy : ℕ → Ask
   askDeadline : Ask
@@ -31,6 +31,7 @@ didBy clock (datum t b) w = calls.dataCall clock t b w
 didBy clock (reading t) w = calls.readCall t w
 didBy clock (advance t) w = calls.advanceCall t w
 didBy clock (reset t asserted) w = calls.resetCall clock t asserted w
+didBy clock (vcomRule t byFrame) w = calls.vcomCall t byFrame w
 didBy clock taking w = calls.takeCall w
 didBy clock (askBusy t) w = w
 didBy clock askDeadline w = w
@@ -48,6 +49,7 @@ refusedBy (datum t b) w = turnedBack false t w
 refusedBy (reading t) w = turnedBack false t w
 refusedBy (advance t) w = turnedBack false t w
 refusedBy (reset t asserted) w = turnedBack asserted t w
+refusedBy (vcomRule t byFrame) w = turnedBack false t w
 refusedBy taking w = calls.takingRefused (w .chip) (w .lent .rows)
 refusedBy (askBusy t) w = calls.questionRefused (w .chip)
 refusedBy askDeadline w = calls.questionRefused (w .chip)
@@ -71,6 +73,7 @@ answered (datum t b) w = nothing
 answered (reading t) w = byte (calls.readAnswer t w)
 answered (advance t) w = nothing
 answered (reset t asserted) w = nothing
+answered (vcomRule t byFrame) w = nothing
 answered taking w = count (calls.takenRows (w .chip) (w .lent .rows))
 answered (askBusy t) w = low (calls.busyAnswer (w .chip) t)
 answered askDeadline w = due (calls.deadlineAnswer (w .chip))
@@ -84,6 +87,7 @@ writes (datum t b) = true
 writes (reading t) = true
 writes (advance t) = true
 writes (reset t asserted) = true
+writes (vcomRule t byFrame) = true
 writes taking = false
 writes (askBusy t) = false
 writes askDeadline = false

@@ -30,7 +30,7 @@ use Rattle.controller.specs.declared.reads.Read.the-variants.{Nothing}
 use Rattle.controller.specs.declared.Due.{Due}
 use Rattle.controller.specs.declared.Due.the-variants as due
 use Rattle.controller.specs.World.{World, Buffers, world, onChip}
-use Rattle.controller.specs.Setters.{withLog}
+use Rattle.controller.specs.Setters.{withLog, withVcomRule}
 use Rattle.controller.specs.TurnedBack.{foreignRecord, turnedBack, makingRefused, lentRefused}
 use Rattle.controller.specs.Arrives.{arrived, rest, busyAt}
 use Rattle.controller.specs.Command.{commandByte}
@@ -58,6 +58,10 @@ readAnswer t w = pick (eqb (turnedBack false t w) 0) (readOf (arrived t w .chip)
 
 abbrev pub resetCall : (Uc8253 → Counting) → ℕ → Bool → World → World
 resetCall clock t asserted w = called asserted t (resetEdge clock asserted) w
+
+-- event kind 6: an advance, and then VCOM's rule is the one given (true: rule 2); it closes no command (2026-08)
+abbrev pub vcomCall : ℕ → Bool → World → World
+vcomCall t byFrame w = called false t (onChip (withVcomRule byFrame)) w
 
 abbrev pub advanceCall : ℕ → World → World
 advanceCall t w = called false t (λ v. v) w
@@ -110,15 +114,16 @@ rowAnswer p picture y =
 
 -- no table, no level, no period
 unfoldable pub noWaveform : Waveform
-noWaveform = record { tables = replicate 5 (replicate 7 blank); levels = record { vdh = 0; vdl = 0; vdhr = 0 }; «frame_ns» = 0 }
+noWaveform = record { tables = replicate 5 (replicate 7 blank); levels = record { vdh = 0; vdl = 0; vdhr = 0 }; «frame_ns» = 0; «vcom_by_frame» = false }
 
--- a record that no call has seen: running, without supplies and without a command, the picture as the glass was
+-- a record that no call has seen: running, without supplies and without a command, VCOM by the rule that the configuration selects,
+-- the picture as the glass was
 abbrev pub untouched : Uc8253Config → Registers → Uc8253
 untouched c r = record {
   config = c;
   regs = r;
   luts = resetLuts;
-  mode = record { power = power.Running; powered = false; «data_flag» = false };
+  mode = record { power = power.Running; powered = false; «data_flag» = false; «vcom_by_frame» = c .«vcom_by_frame» };
   stage = record { current = current.Idle };
   operation = rest;
   waveform = noWaveform;
@@ -151,6 +156,7 @@ noConfig = record {
     rate = 0;
   };
   «ambient_celsius» = 0;
+  «vcom_by_frame» = false;
 }
 
 unfoldable pub noRegisters : Registers

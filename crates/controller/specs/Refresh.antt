@@ -46,9 +46,12 @@ refreshNote psr powered =
     (Told (RefreshNotModelled 2)))
     (Told (RefreshNotModelled 1))
 
--- the waveform that the registers give: the tables, the levels of 01, and the period of the low five bits of 30
+-- the waveform that the registers give: the tables, the levels of 01, and the period of the low five bits of 30; with VCOM's rule
+-- in force (2026-08)
 unfoldable pub waveformNow : Uc8253 → Waveform
-waveformNow p = waveformOf (p .luts .bytes) (levelsOf (p .regs .power)) (getD (p .config .timing .«frame_period») (p .regs .pll % 32) 0)
+waveformNow p =
+    waveformOf (p .luts .bytes) (levelsOf (p .regs .power)) (getD (p .config .timing .«frame_period») (p .regs .pll % 32) 0)
+    (p .mode .«vcom_by_frame»)
 
 -- each pixel's number, row by row
 unfoldable pub numbersNow : Uc8253 → Buffers → List ℕ

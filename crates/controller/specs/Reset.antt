@@ -30,7 +30,7 @@ cutBy clock (work.Refresh r) w = cutRefresh clock r (tell ResetDuringRefresh w)
 unfoldable pub cut : (Uc8253 → Counting) → World → World
 cut clock w = cutBy clock (w .chip .operation .work) w
 
--- the running operation is dropped, registers restored, power cut; RAM and data flag stay, and no command is under way
+-- the running operation is dropped, registers restored, power cut; RAM, data flag and VCOM's rule stay, and no command is under way
 unfoldable pub cleared : Uc8253 → Uc8253
 cleared p =
     withCurrent current.Idle

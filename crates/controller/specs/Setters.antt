@@ -60,15 +60,22 @@ withLog x p = recordOf (p .config) (p .regs) (p .luts) (p .mode) (p .stage) (p .
 abbrev pub withNow : ℕ → Uc8253 → Uc8253
 withNow x p = recordOf (p .config) (p .regs) (p .luts) (p .mode) (p .stage) (p .operation) (p .waveform) (p .image) (p .log) x
 
--- the power, the supplies or the data flag alone; the command under way
+-- the mode by its parts
+abbrev pub modeOf : Power → Bool → Bool → Bool → Mode
+modeOf power powered flag byFrame = record { power = power; powered = powered; «data_flag» = flag; «vcom_by_frame» = byFrame }
+
+-- the power, the supplies, the data flag or VCOM's rule alone; the command under way
 abbrev pub withPower : Power → Uc8253 → Uc8253
-withPower x p = withMode (record { power = x; powered = p .mode .powered; «data_flag» = p .mode .«data_flag» }) p
+withPower x p = withMode (modeOf x (p .mode .powered) (p .mode .«data_flag») (p .mode .«vcom_by_frame»)) p
 
 abbrev pub withPowered : Bool → Uc8253 → Uc8253
-withPowered x p = withMode (record { power = p .mode .power; powered = x; «data_flag» = p .mode .«data_flag» }) p
+withPowered x p = withMode (modeOf (p .mode .power) x (p .mode .«data_flag») (p .mode .«vcom_by_frame»)) p
 
 abbrev pub withDataFlag : Bool → Uc8253 → Uc8253
-withDataFlag x p = withMode (record { power = p .mode .power; powered = p .mode .powered; «data_flag» = x }) p
+withDataFlag x p = withMode (modeOf (p .mode .power) (p .mode .powered) x (p .mode .«vcom_by_frame»)) p
+
+abbrev pub withVcomRule : Bool → Uc8253 → Uc8253
+withVcomRule x p = withMode (modeOf (p .mode .power) (p .mode .powered) (p .mode .«data_flag») x) p
 
 abbrev pub withCurrent : Current → Uc8253 → Uc8253
 withCurrent x p = withStage (record { current = x }) p

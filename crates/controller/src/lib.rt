@@ -37,6 +37,8 @@ pub struct Mode {
     pub powered: bool,
     // `DSP` came after the last plane.
     pub data_flag: bool,
+    // VCOM by rule 2 from the next refresh on: its table runs by its own frames (2026-08).
+    pub vcom_by_frame: bool,
 }
 
 // A command whose data bytes are taken, counted or read.
@@ -104,7 +106,7 @@ pub struct Uc8253 {
     pub mode: Mode,
     pub stage: Stage,
     pub operation: Operation,
-    // The tables, levels and frame period of the refresh that was started last.
+    // The tables, levels, frame period and VCOM's rule of the refresh that was started last.
     pub waveform: Waveform,
     pub image: PanelImage,
     pub log: Log,

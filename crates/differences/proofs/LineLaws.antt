@@ -22,13 +22,13 @@ past : (n x : ℕ) → NoneOf n x → (x ≡ 0 → ⊥) → n < x
 past zero x r z = omega arith
 past (suc n) x r z = omega (arith, past n x (r .0) z, r .1)
 
-pub unnamed : (x : ℕ) → NoneOf 5 x → [] ≡ kindWord x
+pub unnamed : (x : ℕ) → NoneOf 6 x → [] ≡ kindWord x
 unfolding kindWord
 unnamed x r = elim (decLe x 0) [
   | yes h ↦
       let z : x ≡ 0 = omega arith in
       rw z
-  | no h ↦ sym (getD-past kinds x [] (past 5 x r (λ z. omega arith)))
+  | no h ↦ sym (getD-past kinds x [] (past 6 x r (λ z. omega arith)))
 ]
 
 -- ---- an event

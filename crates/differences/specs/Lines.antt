@@ -12,7 +12,7 @@ use Rattle.differences.specs.declared.distances.Spread.{Spread}
 
 -- the kinds of event from 1 on, by number; any other has no word
 abbrev pub kinds : List (List ℕ)
-kinds = [] ∷ ascii "command" ∷ ascii "data" ∷ ascii "read" ∷ ascii "reset" ∷ ascii "advance" ∷ []
+kinds = [] ∷ ascii "command" ∷ ascii "data" ∷ ascii "read" ∷ ascii "reset" ∷ ascii "advance" ∷ ascii "rule" ∷ []
 
 unfoldable pub kindWord : ℕ → List ℕ
 kindWord kind = getD kinds kind []

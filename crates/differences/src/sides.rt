@@ -25,6 +25,7 @@ fn kind_word(text: &mut [u8], held: usize, kind: u8) -> usize
         3 => put(text, held, b"read"),
         4 => put(text, held, b"reset"),
         5 => put(text, held, b"advance"),
+        6 => put(text, held, b"rule"),
         _ => put(text, held, b""),
     }
 }

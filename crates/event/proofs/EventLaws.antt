@@ -15,7 +15,7 @@ use Rattle.base.proofs.Lists.{getD-past}
 use Rattle.base.proofs.Sorting.{Rest}
 use Rattle.controller.specs.World.{World}
 use Rattle.controller.specs.TurnedBack.{turnedBack}
-use Rattle.controller.specs.Calls.{commandCall, dataCall, readCall, readAnswer, resetCall, advanceCall}
+use Rattle.controller.specs.Calls.{commandCall, dataCall, readCall, readAnswer, resetCall, advanceCall, vcomCall}
 use Rattle.controller.specs.Ask.{Answer, nothing, byte, count, low, due, bit, part}
 use Rattle.controller.specs.Counting.{own}
 use Rattle.event.specs.declared.Event.{Event}
@@ -52,26 +52,43 @@ module _ (e : Event) (w v : World) (n : ℕ) where
   unfolding eventDone eventDoneBy eventRefused eventAnswer asserts
   does-advance k h r = record { done = rw k h; turned = rw k r; gives = rw k }
 
+  pub does-rule : e .kind ≡ 6 → v ≡ vcomCall (e .time) (eqb (e .value) 2) w → n ≡ turnedBack false (e .time) w → Does e w v n 257
+  unfolding eventDone eventDoneBy eventRefused eventAnswer asserts
+  does-rule k h r = record { done = rw k h; turned = rw k r; gives = rw k }
+
 -- none of the kinds, as a `match` on them leaves it
 abbrev pub NoKind : ℕ → Type 0
-NoKind x = Rest ((5 ∷ []) ∷ (4 ∷ []) ∷ (3 ∷ []) ∷ (2 ∷ []) ∷ (1 ∷ []) ∷ []) x
+NoKind x = Rest ((6 ∷ []) ∷ (5 ∷ []) ∷ (4 ∷ []) ∷ (3 ∷ []) ∷ (2 ∷ []) ∷ (1 ∷ []) ∷ []) x
 
-outside : (x : ℕ) → NoKind x → between 1 5 x ≡ false
+outside : (x : ℕ) → NoKind x → between 1 6 x ≡ false
 outside zero r = refl
-outside (suc zero) r = absurd (r .0 .0 .0 .0 .1 refl)
-outside (suc (suc zero)) r = absurd (r .0 .0 .0 .1 refl)
-outside (suc (suc (suc zero))) r = absurd (r .0 .0 .1 refl)
-outside (suc (suc (suc (suc zero)))) r = absurd (r .0 .1 refl)
-outside (suc (suc (suc (suc (suc zero))))) r = absurd (r .1 refl)
-outside (suc (suc (suc (suc (suc (suc n)))))) r = rw (le-leb 1 (suc (suc (suc (suc (suc (suc n)))))) (omega arith), lt-leb (suc (suc (suc (suc (suc (suc n)))))) 5 (omega arith))
+outside (suc zero) r = absurd (r .0 .0 .0 .0 .0 .1 refl)
+outside (suc (suc zero)) r = absurd (r .0 .0 .0 .0 .1 refl)
+outside (suc (suc (suc zero))) r = absurd (r .0 .0 .0 .1 refl)
+outside (suc (suc (suc (suc zero)))) r = absurd (r .0 .0 .1 refl)
+outside (suc (suc (suc (suc (suc zero))))) r = absurd (r .0 .1 refl)
+outside (suc (suc (suc (suc (suc (suc zero)))))) r = absurd (r .1 refl)
+outside (suc (suc (suc (suc (suc (suc (suc n))))))) r =
+    rw (
+      le-leb 1 (suc (suc (suc (suc (suc (suc (suc n))))))) (omega arith),
+      lt-leb (suc (suc (suc (suc (suc (suc (suc n))))))) 6 (omega arith),
+    )
 
 pub does-nothing : (e : Event) (w : World) → NoKind (e .kind) → Does e w w 0 257
 unfolding eventDone eventDoneBy eventRefused eventAnswer
 does-nothing e w r =
     record {
-      done = rw (ne-eqb (e .kind) 1 (r .0 .0 .0 .0 .1), ne-eqb (e .kind) 2 (r .0 .0 .0 .1), ne-eqb (e .kind) 3 (r .0 .0 .1), ne-eqb (e .kind) 4 (r .0 .1), ne-eqb (e .kind) 5 (r .1));
+      done =
+          rw (
+            ne-eqb (e .kind) 1 (r .0 .0 .0 .0 .0 .1),
+            ne-eqb (e .kind) 2 (r .0 .0 .0 .0 .1),
+            ne-eqb (e .kind) 3 (r .0 .0 .0 .1),
+            ne-eqb (e .kind) 4 (r .0 .0 .1),
+            ne-eqb (e .kind) 5 (r .0 .1),
+            ne-eqb (e .kind) 6 (r .1),
+          );
       turned = rw (outside (e .kind) r);
-      gives = rw (ne-eqb (e .kind) 3 (r .0 .0 .1));
+      gives = rw (ne-eqb (e .kind) 3 (r .0 .0 .0 .1));
     }
 
 -- the number of what a read gave, by the answer of the call

@@ -5,18 +5,19 @@ use mathlib.Core.List.{List}
 use Prim.Native.Nat.{ℕ, zero, suc, _+_, _*_, _≤_, _<_}
 use native.Mathlib.Omega.{arith}
 use lib.Dec.{eqb}
-use lib.ListN.{getD}
+use lib.ListN.{getD, set}
 use Rattle.base.specs.Word.{top}
 use Rattle.base.proofs.Cases.{both}
 use Rattle.base.specs.Turns.{turns}
-use Rattle.base.proofs.Turns.{turns-keep}
+use Rattle.base.proofs.Turns.{turns-keep, turns-same}
 use Rattle.capture.specs.Little.{little}
 use Rattle.controller.specs.World.{World}
 use Rattle.controller.specs.Counting.{own, same}
-use Rattle.controller.specs.Ask.{command, datum, reading, advance, reset}
+use Rattle.controller.specs.Ask.{command, datum, reading, advance, reset, vcomRule}
 use Rattle.controller.proofs.OneGigahertz.{did-same, Ready, ready}
 use Rattle.event.specs.declared.Event.{Event}
-use Rattle.event.specs.Events.{eventAt, eventDone, eventDoneBy, ranTo, ranToBy}
+use Rattle.event.specs.Events.{eventAt, eventDone, eventDoneBy, eventRefused, eventAnswer, earlier, ranTo, ranToBy}
+use Rattle.event.specs.Events.{answersTo, answersToBy, refusedIn, refusedInBy}
 use Rattle.event.proofs.RunLaws.{Bytes, byte-anywhere}
 
 -- eight bytes make a 64-bit number
@@ -56,7 +57,8 @@ ready-event e w h r =
     (both Ready (eqb (e .kind) 3) (ready (reading (e .time)) w h r)
     (both Ready (eqb (e .kind) 4) (ready (reset (e .time) (eqb (e .value) 1)) w h r)
     (both Ready (eqb (e .kind) 5) (ready (advance (e .time)) w h r)
-    r))))
+    (both Ready (eqb (e .kind) 6) (ready (vcomRule (e .time) (eqb (e .value) 2)) w h r)
+    r)))))
 
 -- ---- one after the other
 ready-run : (bytes : List ℕ) → Bytes bytes → (n : ℕ) (w : World) → Ready w → Ready (ranTo bytes n w)
@@ -70,3 +72,15 @@ ran-same bytes b zero w r = refl
 ran-same bytes b (suc n) w r =
     event-same (eventAt bytes n) (ranTo bytes n w) (time-fits bytes b n) (ready-run bytes b n w r)
     ∙ ap (eventDoneBy same (eventAt bytes n)) (ran-same bytes b n w r)
+
+-- the answers to its reads, and its refusals
+pub answers-same : (bytes : List ℕ) → Bytes bytes → (n : ℕ) (w : World) (answers : List ℕ) → Ready w
+    → answersTo bytes n w answers ≡ answersToBy same bytes n w answers
+unfolding answersTo answersToBy
+answers-same bytes b n w answers r =
+    turns-same n _ _ answers (λ i l h. ap (λ (v : World). set l i (eventAnswer (eventAt bytes i) v)) (ran-same bytes b i w r))
+
+pub refused-same : (bytes : List ℕ) → Bytes bytes → (n : ℕ) (w : World) → Ready w → refusedIn bytes n w ≡ refusedInBy same bytes n w
+unfolding refusedIn refusedInBy
+refused-same bytes b n w r =
+    turns-same n _ _ 0 (λ i k h. ap (λ (v : World). earlier k (eventRefused (eventAt bytes i) v)) (ran-same bytes b i w r))

@@ -18,7 +18,7 @@ use Rattle.controller.specs.TurnedBack.{turnedBack}
 use Rattle.controller.specs.Arrives.{arrived}
 use Rattle.controller.specs.Calls.{called}
 use Rattle.controller.specs.Sound.{Sound}
-use Rattle.controller.proofs.Sound.{sound-arrived, sound-command, sound-data, sound-reading, sound-reset, never-turned}
+use Rattle.controller.proofs.Sound.{sound-arrived, sound-command, sound-data, sound-reading, sound-reset, sound-ruled, never-turned}
 use Rattle.event.specs.declared.Event.{Event}
 use Rattle.event.specs.Events.{eventsIn, eventAt, ran, asserts, eventDone, eventDoneBy, eventRefused, eventAnswer, ranTo, answersTo, earlier, refusedIn}
 use Rattle.event.proofs.EventLaws.{event-drop}
@@ -63,11 +63,12 @@ sound-event e w h s =
     (both Sound (eqb (e .kind) 3) (sound-called false (e .time) _ w sound-reading s)
     (both Sound (eqb (e .kind) 4) (sound-called (eqb (e .value) 1) (e .time) _ w (sound-reset (eqb (e .value) 1)) s)
     (both Sound (eqb (e .kind) 5) (sound-called false (e .time) _ w (λ v q. q) s)
-    s))))
+    (both Sound (eqb (e .kind) 6) (sound-called false (e .time) _ w (sound-ruled (eqb (e .value) 2)) s)
+    s)))))
 
 pub event-taken : (e : Event) (w : World) → Sound w → eventRefused e w ≡ 0
 unfolding eventRefused
-event-taken e w s = both (λ n. n ≡ 0) (between 1 5 (e .kind)) (never-turned (asserts e) (e .time) w s) refl
+event-taken e w s = both (λ n. n ≡ 0) (between 1 6 (e .kind)) (never-turned (asserts e) (e .time) w s) refl
 
 -- every entry is a byte
 abbrev pub Bytes : List ℕ → Type 0

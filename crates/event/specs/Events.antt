@@ -10,7 +10,7 @@ use Rattle.controller.specs.declared.reads.Read.{Read}
 use Rattle.controller.specs.declared.reads.Read.the-variants.{Byte, Nothing}
 use Rattle.controller.specs.World.{World}
 use Rattle.controller.specs.TurnedBack.{turnedBack}
-use Rattle.controller.specs.Calls.{commandCall, dataCall, readCall, readAnswer, resetCall, advanceCall}
+use Rattle.controller.specs.Calls.{commandCall, dataCall, readCall, readAnswer, resetCall, advanceCall, vcomCall}
 use Rattle.controller.specs.declared.Uc8253.{Uc8253}
 use Rattle.controller.specs.Counting.{Counting, own}
 use Rattle.event.specs.declared.Event.{Event}
@@ -24,11 +24,12 @@ eventsIn bytes = length bytes / 10
 unfoldable pub eventAt : List ℕ → ℕ → Event
 eventAt bytes i = record { time = little bytes (i * 10) 8; kind = getD bytes (i * 10 + 8) 0; value = getD bytes (i * 10 + 9) 0 }
 
--- kind 4 with value 1: reset is asserted; with any other it is released
+-- kind 4 with value 1: reset is asserted; with any other it is released; kind 6 with value 2: rule 2 of VCOM, with any other rule 1
 unfoldable pub asserts : Event → Bool
 asserts e = eqb (e .kind) 4 && eqb (e .value) 1
 
--- 1 command, 2 data, 3 read, 4 reset, 5 advance; any other kind leaves all as it is. The calls take two conversions (2026-05)
+-- 1 command, 2 data, 3 read, 4 reset, 5 advance, 6 VCOM's rule (2026-08); any other kind leaves all as it is. The calls take two
+-- conversions (2026-05)
 unfoldable pub eventDoneBy : (Uc8253 → Counting) → Event → World → World
 eventDoneBy clock e w =
     pick (eqb (e .kind) 1) (commandCall clock (e .time) (e .value) w)
@@ -36,7 +37,8 @@ eventDoneBy clock e w =
     (pick (eqb (e .kind) 3) (readCall (e .time) w)
     (pick (eqb (e .kind) 4) (resetCall clock (e .time) (eqb (e .value) 1) w)
     (pick (eqb (e .kind) 5) (advanceCall (e .time) w)
-    w))))
+    (pick (eqb (e .kind) 6) (vcomCall (e .time) (eqb (e .value) 2) w)
+    w)))))
 
 -- by the record's own
 unfoldable pub eventDone : Event → World → World
@@ -44,7 +46,7 @@ eventDone e w = eventDoneBy own e w
 
 -- the number by which that call is turned back; 0 for any other kind
 unfoldable pub eventRefused : Event → World → ℕ
-eventRefused e w = pick (between 1 5 (e .kind)) (turnedBack (asserts e) (e .time) w) 0
+eventRefused e w = pick (between 1 6 (e .kind)) (turnedBack (asserts e) (e .time) w) 0
 
 -- the byte that a read gave, 256 for none
 abbrev pub readNumber : Read → ℕ
@@ -67,6 +69,9 @@ ranToBy clock bytes n w = turns n (λ i v. eventDoneBy clock (eventAt bytes i) v
 unfoldable pub answersTo : List ℕ → ℕ → World → List ℕ → List ℕ
 answersTo bytes n w answers = turns n (λ i l. set l i (eventAnswer (eventAt bytes i) (ranTo bytes i w))) answers
 
+unfoldable pub answersToBy : (Uc8253 → Counting) → List ℕ → ℕ → World → List ℕ → List ℕ
+answersToBy clock bytes n w answers = turns n (λ i l. set l i (eventAnswer (eventAt bytes i) (ranToBy clock bytes i w))) answers
+
 -- the earlier of two refusals, 0 standing for none
 unfoldable pub earlier : ℕ → ℕ → ℕ
 earlier r s = pick (eqb r 0) s r
@@ -74,6 +79,9 @@ earlier r s = pick (eqb r 0) s r
 -- the first refusal among the first n events, 0 if there is none
 unfoldable pub refusedIn : List ℕ → ℕ → World → ℕ
 refusedIn bytes n w = turns n (λ i r. earlier r (eventRefused (eventAt bytes i) (ranTo bytes i w))) 0
+
+unfoldable pub refusedInBy : (Uc8253 → Counting) → List ℕ → ℕ → World → ℕ
+refusedInBy clock bytes n w = turns n (λ i r. earlier r (eventRefused (eventAt bytes i) (ranToBy clock bytes i w))) 0
 
 -- all whole events: the world, the first refusal, the answers
 abbrev pub ran : List ℕ → World → World

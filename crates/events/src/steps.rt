@@ -11,6 +11,7 @@ use capture::NO_READ;
 use capture::NOTHING;
 use capture::READ;
 use capture::RESET;
+use capture::VCOM_RULE;
 use controller::Read;
 use controller::Uc8253;
 use uc8253::Answer;
@@ -18,6 +19,7 @@ use uc8253::ReadAnswer;
 use uc8253::advance;
 use uc8253::read_data;
 use uc8253::set_reset;
+use uc8253::set_vcom_rule;
 use uc8253::write_command;
 use uc8253::write_data;
 
@@ -90,6 +92,17 @@ pub fn step(
         READ => with_byte(read_data(p, at, old, new, states, numbers, picture, rows)),
         RESET => no_read(set_reset(p, at, value == 1, old, new, states, numbers, picture, rows)),
         ADVANCE => no_read(advance(p, at, old, new, states, numbers, picture, rows)),
+        VCOM_RULE => no_read(set_vcom_rule(
+            p,
+            at,
+            value == 2,
+            old,
+            new,
+            states,
+            numbers,
+            picture,
+            rows,
+        )),
         _ => Stepped {
             chip: p,
             refused: Refusal::Nothing,

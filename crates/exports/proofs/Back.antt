@@ -14,6 +14,7 @@ use Rattle.controller.specs.declared.Current.the-variants as currents
 use Rattle.controller.specs.declared.Power.{Power}
 use Rattle.controller.specs.declared.Power.the-variants as powers
 use Rattle.controller.specs.declared.Refresh.{Refresh}
+use Rattle.controller.specs.Setters.{modeOf}
 use Rattle.controller.specs.declared.Uc8253.{Uc8253}
 use Rattle.controller.specs.declared.Work.{Work}
 use Rattle.controller.specs.declared.Work.the-variants as works
@@ -85,10 +86,17 @@ work-back (works.Refresh r) = ap (λ (k : RefreshKind). works.Refresh (record { 
 pub back : (p : Uc8253) → recordTaken (handedOf p) ≡ p
 unfolding recordTaken handedOf
 back p = λ i. record {
-  config = record { variant = variant-back (p .config .variant) i; panel = p .config .panel; optics = p .config .optics; timing = p .config .timing; «ambient_celsius» = p .config .«ambient_celsius» };
+  config = record {
+    variant = variant-back (p .config .variant) i;
+    panel = p .config .panel;
+    optics = p .config .optics;
+    timing = p .config .timing;
+    «ambient_celsius» = p .config .«ambient_celsius»;
+    «vcom_by_frame» = p .config .«vcom_by_frame»;
+  };
   regs = p .regs;
   luts = p .luts;
-  mode = record { power = power-back (p .mode .power) i; powered = p .mode .powered; «data_flag» = p .mode .«data_flag» };
+  mode = modeOf (power-back (p .mode .power) i) (p .mode .powered) (p .mode .«data_flag») (p .mode .«vcom_by_frame»);
   stage = record { current = current-back (p .stage .current) i };
   operation = record { work = work-back (p .operation .work) i; started = p .operation .started; until = p .operation .until };
   waveform = p .waveform;

@@ -147,4 +147,6 @@ handedOf p = record {
   powered = p .mode .powered;
   «data_flag» = p .mode .«data_flag»;
   current = currentNumbers (p .stage .current) .current;
+  «made_by_frame» = p .config .«vcom_by_frame»;
+  «vcom_by_frame» = p .mode .«vcom_by_frame»;
 }

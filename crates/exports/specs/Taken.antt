@@ -22,6 +22,7 @@ use Rattle.controller.specs.declared.Power.{Power}
 use Rattle.controller.specs.declared.Power.the-variants as powers
 use Rattle.controller.specs.declared.Refresh.{Refresh}
 use Rattle.controller.specs.declared.Stage.{Stage}
+use Rattle.controller.specs.Setters.{modeOf}
 use Rattle.controller.specs.declared.Uc8253.{Uc8253}
 use Rattle.controller.specs.declared.Work.{Work}
 use Rattle.controller.specs.declared.Work.the-variants as works
@@ -95,10 +96,11 @@ configTaken h = record {
   optics = h .optics;
   timing = h .timing;
   «ambient_celsius» = h .ambient;
+  «vcom_by_frame» = h .«made_by_frame»;
 }
 
 abbrev pub modeTaken : Handed → Mode
-modeTaken h = record { power = powerTaken (h .power); powered = h .powered; «data_flag» = h .«data_flag» }
+modeTaken h = modeOf (powerTaken (h .power)) (h .powered) (h .«data_flag») (h .«vcom_by_frame»)
 
 abbrev pub stageTaken : Handed → Stage
 stageTaken h = record { current = currentTaken (h .current) (activeTaken (h .active)) }

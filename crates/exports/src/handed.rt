@@ -79,6 +79,9 @@ pub struct Handed {
     pub powered: bool,
     pub data_flag: bool,
     pub current: u8,
+    // VCOM's rule 2: selected at making, and in force.
+    pub made_by_frame: bool,
+    pub vcom_by_frame: bool,
 }
 
 fn variant_number(variant: Variant) -> u8
@@ -378,5 +381,7 @@ pub(crate) fn hand_over(p: Uc8253) -> Handed
         powered: p.mode.powered,
         data_flag: p.mode.data_flag,
         current: current.current,
+        made_by_frame: config.vcom_by_frame,
+        vcom_by_frame: p.mode.vcom_by_frame,
     }
 }

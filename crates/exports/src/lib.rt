@@ -39,6 +39,7 @@ use uc8253::power_on;
 use uc8253::ram_bit;
 use uc8253::read_data;
 use uc8253::set_reset;
+use uc8253::set_vcom_rule;
 use uc8253::take_diagnostics;
 use uc8253::write_command;
 use uc8253::write_data;
@@ -202,6 +203,28 @@ pub extern "C" fn jollanqe_reset(
     no_read(
         chip,
         set_reset(p, at, asserted, old, new, states, numbers, picture, rows),
+    )
+}
+
+// VCOM's rule from the next refresh on: rule 2, by its own frames, or rule 1.
+#[no_mangle]
+pub extern "C" fn jollanqe_vcom_rule(
+    chip: Handed,
+    at: u64,
+    by_frame: bool,
+    old: &mut [u8],
+    new: &mut [u8],
+    states: &mut [i64],
+    numbers: &mut [u8],
+    picture: &mut [u8],
+    rows: &mut [u64],
+) -> Given
+    ensures { λ r. ⌜ rule.Passes (ask.vcomRule at «by_frame») chip r old new states numbers picture rows ⌝ }
+{
+    let p = taken(chip);
+    no_read(
+        chip,
+        set_vcom_rule(p, at, by_frame, old, new, states, numbers, picture, rows),
     )
 }
 

@@ -155,6 +155,7 @@ fn config_of(h: Handed) -> Uc8253Config
         optics,
         timing,
         ambient_celsius: h.ambient,
+        vcom_by_frame: h.made_by_frame,
     }
 }
 
@@ -166,6 +167,7 @@ fn mode_of(h: Handed) -> Mode
         power,
         powered: h.powered,
         data_flag: h.data_flag,
+        vcom_by_frame: h.vcom_by_frame,
     }
 }
 

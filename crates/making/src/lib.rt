@@ -44,10 +44,11 @@ fn no_waveform() -> Waveform
         vdl: 0,
         vdhr: 0,
     };
-    Waveform::of([[Group::BLANK; GROUPS]; LUTS], levels, 0)
+    Waveform::of([[Group::BLANK; GROUPS]; LUTS], levels, 0, false)
 }
 
-// Running, without supplies and without a command, the picture as the glass was.
+// Running, without supplies and without a command, VCOM by the rule that the configuration selects, the
+// picture as the glass was.
 fn untouched(config: Uc8253Config, regs: Registers) -> Uc8253
     ensures { λ r. ⌜ r ≡ calls.untouched config regs ⌝ }
 {
@@ -56,6 +57,7 @@ fn untouched(config: Uc8253Config, regs: Registers) -> Uc8253
         power: Power::Running,
         powered: false,
         data_flag: false,
+        vcom_by_frame: config.vcom_by_frame,
     };
     let stage = Stage {
         current: Current::Idle,
@@ -123,6 +125,7 @@ fn no_config() -> Uc8253Config
         optics,
         timing,
         ambient_celsius: 0,
+        vcom_by_frame: false,
     }
 }
 
@@ -156,7 +159,7 @@ pub fn zeros() -> Uc8253
     untouched(no_config(), no_registers())
 }
 
-// 1 to 4, then 5.
+// 1 to 4, 13, then 5.
 fn making_refused(
     config: Uc8253Config,
     old: &[u8],

@@ -1,4 +1,4 @@
 pub mod Rows
 pub mod Get
 pub mod Make1
-pub mod Make3
+pub mod Make4

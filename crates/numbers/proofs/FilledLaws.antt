@@ -13,6 +13,9 @@ use Rattle.numbers.specs.Filled.{filled, rowsFilled}
 pub filled-more : (f : ℕ → ℕ) (p n : ℕ) (l : List ℕ) → set (filled f p n l) (p + n) (f n) ≡ filled f p (n + 1) l
 filled-more f p n l = rw (add-one n)
 
+pub filled-none : (f : ℕ → ℕ) (p n : ℕ) (l : List ℕ) → n ≤ 0 → filled f p n l ≡ l
+filled-none f p n l h = ap (λ (k : ℕ). filled f p k l) {x = n} {y = 0} (omega arith)
+
 pub rows-more : (f : ℕ → ℕ → ℕ) (n y : ℕ) (l : List ℕ) → filled (λ x. f x y) (y * n) n (rowsFilled f n y l) ≡ rowsFilled f n (y + 1) l
 rows-more f n y l = rw (add-one y)
 

@@ -1,3 +1,4 @@
 pub mod BitLaws
+pub mod EightLaws
 pub mod FilledLaws
 pub mod NumberLaws

@@ -18,7 +18,7 @@ use Rattle.numbers.specs.declared.Scan.{Scan}
 use Rattle.numbers.specs.declared.Row.{Row}
 use Rattle.numbers.specs.declared.Mapping.{Mapping}
 use Rattle.numbers.specs.Number.{shownAt, transitionOf, numberOf, someUndriven}
-use Rattle.numbers.specs.InnerRow.{rowAt, numberIn, numberOfBit, byteInside, eightStraight}
+use Rattle.numbers.specs.InnerRow.{rowAt, inRow, numberIn, numberFrom, inOrder, Outside, Whole}
 
 -- ---- tests of a larger and of a smaller end
 leb-max : (a b c : ℕ) → leb (max a b) c ≡ leb a c && leb b c
@@ -103,38 +103,49 @@ module _ (l : List ℕ) (i : ℕ) where
   undriven-none h true = refl
   undriven-none h false = rw (drop-of-length-le l h)
 
--- ---- eight pixels that show a byte of each plane
+-- ---- columns in their order, outside, and of whole bytes
 no-test : {X : Type 0} → _≡_ {A = Bool} false true → X
 no-test e = absurd (subst (λ (b : Bool). T b) (sym e) tt)
 
-in-order : (r s b : Bool) → pick r false (pick s b false) ≡ true → (r ≡ false) × (s ≡ true) × (b ≡ true)
-in-order true s b e = no-test e
-in-order false true b e = (refl, refl, e)
-in-order false false b e = no-test e
+both-flags : (r s : Bool) → pick r false s ≡ true → (r ≡ false) × (s ≡ true)
+both-flags true s e = no-test e
+both-flags false s e = (refl, e)
 
-all-four : (a b c d : Bool) → a && (b && (c && d)) ≡ true → (a ≡ true) × (b ≡ true) × (c ≡ true) × (d ≡ true)
-all-four true true true d e = (refl, refl, refl, e)
-all-four true true false d e = no-test e
-all-four true false c d e = no-test e
-all-four false b c d e = no-test e
+pub shown-in-order : (s : Scan) (first last v : ℕ) → inOrder s ≡ true → v ≡ shownAt s first last v
+unfolding shownAt
+shown-in-order s first last v h =
+    let e = both-flags (s .reversed) (s .straight) h in
+    rw (e .1, e .0)
 
-module _ (s : Scan) (q : Row) (x : ℕ) (h : eightStraight s q x ≡ true) where
-  pub whole-fits : x + 8 ≤ s .count
-  unfolding eightStraight byteInside
-  whole-fits =
-      let e = in-order (s .reversed) (s .straight) (byteInside (s .count) q x) h in
-      leb-true (x + 8) (s .count) (all-four (eqb (x % 8) 0) (leb (x + 8) (s .count)) (leb (q .lo) x) (leb (x + 7) (q .hi)) (e .2) .1)
+-- ---- where a column lies
+module _ (q : Row) (c : ℕ) where
+  pub before-row : c < q .lo → inRow q c ≡ false
+  before-row h = rw (lt-leb (q .lo) c h)
 
-  pub whole-numbers : (white first last : ℕ) (old new : List ℕ) (k : ℕ) → k < 8 →
-      numberOfBit (getD old (q .row * 100 + x / 8) 0) (getD new (q .row * 100 + x / 8) 0) white k
-      ≡ numberIn q white old new (shownAt s first last (x + k))
-  unfolding eightStraight byteInside shownAt numberIn bitAt
-  whole-numbers white first last old new k l =
-      let e = in-order (s .reversed) (s .straight) (byteInside (s .count) q x) h in
-      let f = all-four (eqb (x % 8) 0) (leb (x + 8) (s .count)) (leb (q .lo) x) (leb (x + 7) (q .hi)) (e .2) in
-      let z : x % 8 ≡ 0 = eqb-true (x % 8) 0 (f .0) in
-      let lo : q .lo ≤ x = leb-true (q .lo) x (f .2) in
-      let hi : x + 7 ≤ q .hi = leb-true (x + 7) (q .hi) (f .3) in
-      let at : place (x + k) (q .row) ≡ q .row * 100 + x / 8 = omega arith in
-      let bit : (x + k) % 8 ≡ k = omega arith in
-      rw (e .1, e .0, le-leb (q .lo) (x + k) (omega arith), le-leb (x + k) (q .hi) (omega arith), at, bit)
+  pub after-row : q .hi < c → inRow q c ≡ false
+  after-row h = rw (lt-leb c (q .hi) h) (never (leb (q .lo) c))
+
+  in-both : q .lo ≤ c → c ≤ q .hi → inRow q c ≡ true
+  in-both h l = rw (le-leb (q .lo) c h, le-leb c (q .hi) l)
+
+pub none-outside : (q : Row) (x count : ℕ) → x < count → Outside q x 0 count
+none-outside q x count h = record { most = omega arith; none = λ k l. absurd (omega arith) }
+
+pub whole-bytes : (q : Row) (x n count : ℕ) → x % 8 ≡ 0 → q .lo ≤ x → x + n * 8 ≤ q .hi + 1 → x + n * 8 ≤ count → Whole q x n count
+whole-bytes q x n count z lo hi most = record { most = most; begins = λ h. z; inside = λ k l. in-both q (x + k) (omega arith) (omega arith) }
+
+pub no-bytes : (q : Row) (x count : ℕ) → x < count → Whole q x 0 count
+no-bytes q x count h = record { most = omega arith; begins = λ l. absurd (omega arith); inside = λ k l. absurd (omega arith) }
+
+module _ (q : Row) (white : ℕ) (old new : List ℕ) (x n count : ℕ) where
+  pub outside-numbers : Outside q x n count → (k : ℕ) → k < n → 255 ≡ numberIn q white old new (x + k)
+  unfolding numberIn
+  outside-numbers h k l = rw (h .none k l)
+
+  pub whole-numbers : Whole q x n count → (k : ℕ) → k < n * 8 → numberFrom old new (q .row * 100 + x / 8) white k ≡ numberIn q white old new (x + k)
+  unfolding numberIn bitAt
+  whole-numbers h k l =
+      let z : x % 8 ≡ 0 = h .begins (omega arith) in
+      let at : place (x + k) (q .row) ≡ q .row * 100 + x / 8 + k / 8 = omega arith in
+      let bit : (x + k) % 8 ≡ k % 8 = omega arith in
+      rw (h .inside k l, at, bit)

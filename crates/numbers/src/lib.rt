@@ -1,13 +1,13 @@
 // The number of each pixel of the panel: the table that drives it in a refresh (mod.rs,
 // `ram_pixel` and `luts_of_pixels`).
 ghost use mathlib.Core.Path.{_≡_};
-ghost use Prim.Native.Nat.{ℕ, _<_, _≤_, _+_, _-_, _^_, min, max};
+ghost use Prim.Native.Nat.{ℕ, _<_, _≤_, _+_, _-_, _*_, _^_, min, max};
 ghost use lib.Dec.{eqb};
 ghost use lib.ListN.{length};
 ghost use Rattle.base.specs.Pick.{pick};
 ghost use Rattle.ram.specs.Plane.{bitOf};
 ghost use Rattle.numbers.specs.Filled.{filled, rowsFilled};
-ghost use Rattle.numbers.specs.InnerRow.{noRow, rowAt, numberIn, numberOfBit, byteInside, eightStraight, Some};
+ghost use Rattle.numbers.specs.InnerRow.{noRow, rowAt, numberIn, numberAt, numberOfBit, numberFrom, inOrder, byteOf, Spread, Outside, Whole, Some};
 ghost use Rattle.numbers.specs.Number.{mappingOf, reversedOf, shownAt, transitionOf, numberOf, someUndriven};
 use base::KK;
 use base::KW;
@@ -17,7 +17,6 @@ use base::WW;
 use config::Uc8253Geometry;
 use config::Variant;
 use ram::bit;
-use ram::byte_at;
 use ram::store;
 use registers::Area;
 use registers::Registers;
@@ -26,6 +25,15 @@ use registers::psr_ud;
 
 // No area has this column or row.
 const NOWHERE: u32 = 65_536;
+
+// Seven copies of a byte, such that bit 7 - k of copy k is bit 8 k, for k from 1 on.
+const COPIES: u64 = 0x0100_8040_2010_0804;
+
+// Bit 0 of each byte but the lowest.
+const HIGHER: u64 = 0x0101_0101_0101_0100;
+
+// 4 in each byte: old and new black.
+const FOURS: u64 = 0x0404_0404_0404_0404;
 
 // How the columns or the rows of the panel lie on the RAM's.
 pub struct Scan {
@@ -208,74 +216,196 @@ fn whites(b: u8, white: u8) -> u8
     0
 }
 
-// The numbers of eight pixels that have room, 1 being white: with no branch for a pixel.
-fn eight_of_ones(numbers: &mut [u8], at: usize, old: u8, new: u8)
+// The bits of a byte, a byte each, the highest bit in the lowest byte.
+fn spread(b: u8) -> u64
+    ensures { λ r. ⌜ Spread b r ⌝ }
+{
+    let w = b as u64;
+    ((w * COPIES) & HIGHER) + w / 128
+}
+
+// The numbers of the eight pixels of a byte of each plane, a byte each, 1 being white.
+fn eight(old: u8, new: u8) -> u64
+    ensures { λ r. ⌜ ((k : ℕ) → k < 8 → byteOf r k ≡ numberOfBit old new 1 k) ⌝ }
+{
+    let o = spread(old);
+    let n = spread(new);
+    FOURS - o - n - n
+}
+
+// The bytes of a number, the lowest first.
+fn put_eight(numbers: &mut [u8], at: usize, w: u64)
     requires { ⌜ at + 8 ≤ length (now numbers) ⌝ }
-    ensures { λ r. ⌜ now (numbers .exit) ≡ filled (numberOfBit old new 1) at 8 (now (numbers .entry)) ⌝ }
+    ensures { λ r. ⌜ now (numbers .exit) ≡ filled (byteOf w) at 8 (now (numbers .entry)) ⌝ }
 {
     for k in 0usize..8 {
-        let o = (old >> (7 - k)) % 2;
-        let n = (new >> (7 - k)) % 2;
-        numbers[at + k] = 4 - o - n - n;
+        numbers[at + k] = ((w >> (8 * k)) % 256) as u8;
     }
 }
 
-// The numbers of eight pixels of which some may lie past the end.
-fn eight_stored(numbers: &mut [u8], at: usize, old: u8, new: u8, white: u8)
-    requires { ⌜ at < 2 ^ 33 ⌝ }
-    ensures { λ r. ⌜ now (numbers .exit) ≡ filled (numberOfBit old new white) at 8 (now (numbers .entry)) ⌝ }
+// The numbers of the pixels of n bytes of each plane, with no branch for a pixel.
+fn number_bytes(
+    numbers: &mut [u8],
+    at: usize,
+    old: &[u8],
+    new: &[u8],
+    place: usize,
+    n: usize,
+    white: u8,
+)
+    requires { ⌜ (at + n * 8 ≤ length (now numbers)) × (place + n ≤ length (now old)) × (place + n ≤ length (now new)) ⌝ }
+    ensures { λ r. ⌜ now (numbers .exit)
+        ≡ filled (numberFrom (now (old .entry)) (now (new .entry)) place white) at (n * 8) (now (numbers .entry)) ⌝ }
 {
-    for k in 0usize..8 {
-        let o = (old >> (7 - k)) % 2;
-        let n = (new >> (7 - k)) % 2;
-        store(numbers, at + k, table_number(o == white, n == white));
+    for i in 0usize..n {
+        let o = whites(old[place + i], white);
+        let w = whites(new[place + i], white);
+        put_eight(numbers, at + i * 8, eight(o, w));
     }
 }
 
-// The numbers of eight pixels that show a byte of each plane, highest bit first.
-fn eight(numbers: &mut [u8], at: usize, old: u8, new: u8, white: u8)
-    requires { ⌜ at < 2 ^ 33 ⌝ }
-    ensures { λ r. ⌜ now (numbers .exit) ≡ filled (numberOfBit old new white) at 8 (now (numbers .entry)) ⌝ }
+// n pixels are left alone.
+fn leave(numbers: &mut [u8], at: usize, n: usize)
+    requires { ⌜ at + n ≤ length (now numbers) ⌝ }
+    ensures { λ r. ⌜ now (numbers .exit) ≡ filled (λ k. 255) at n (now (numbers .entry)) ⌝ }
 {
-    if at + 8 <= numbers.len() {
-        eight_of_ones(numbers, at, whites(old, white), whites(new, white));
-        return;
+    for k in 0usize..n {
+        numbers[at + k] = UNDRIVEN;
     }
-    eight_stored(numbers, at, old, new, white);
 }
 
-// Whether a byte begins at column x, and its eight columns lie in the row and inside both areas.
-fn byte_inside(count: u16, row: Row, x: u16) -> bool
-    ensures { λ r. ⌜ r ≡ byteInside count row x ⌝ }
+// How many columns from x on lie outside, up to the first that does not.
+fn outside_from(count: u16, row: Row, x: u16) -> u16
+    requires { ⌜ x < count ⌝ }
+    ensures { λ r. ⌜ Outside row x r count ⌝ }
 {
-    if x % 8 != 0 {
-        return false;
-    }
-    if (count as u32) < x as u32 + 8 {
-        return false;
+    if row.hi < x {
+        return count - x;
     }
     if x < row.lo {
-        return false;
+        return earlier(row.lo, count) - x;
     }
-    x as u32 + 7 <= row.hi as u32
+    0
 }
 
-// Whether the eight columns of the panel from x on show whole bytes of the RAM, in their order.
-fn whole_byte(columns: Scan, row: Row, x: u16) -> bool
-    ensures { λ r. ⌜ r ≡ eightStraight columns row x ⌝ }
+// How many bytes of the RAM begin at column x and lie inside.
+fn bytes_from(count: u16, row: Row, x: u16) -> u16
+    requires { ⌜ x < count ⌝ }
+    ensures { λ r. ⌜ Whole row x r count ⌝ }
 {
-    if columns.reversed {
-        return false;
+    if x % 8 != 0 {
+        return 0;
     }
-    if columns.straight {
-        return byte_inside(columns.count, row, x);
+    if x < row.lo {
+        return 0;
     }
-    false
+    if row.hi < x {
+        return 0;
+    }
+    let room = count - x;
+    let last = row.hi - x;
+    if last < room {
+        return (last + 1) / 8;
+    }
+    room / 8
 }
 
-// The next pixels of a row, from column x on: eight where they show whole bytes, else one. Answers
+// The columns from x on that lie outside, if the numbers have room for them. Answers how many.
+fn leave_some(numbers: &mut [u8], at: usize, count: u16, row: Row, x: u16) -> u16
+    requires { ⌜ (at < 2 ^ 33) × (x < count) ⌝ }
+    ensures { λ r. ⌜ (Outside row x r count) × (now (numbers .exit) ≡ filled (λ k. 255) at r (now (numbers .entry))) ⌝ }
+{
+    let n = outside_from(count, row, x);
+    if at + n as usize <= numbers.len() {
+        leave(numbers, at, n as usize);
+        return n;
+    }
+    0
+}
+
+fn least(a: usize, b: usize) -> usize
+    ensures { λ r. ⌜ r ≡ min a b ⌝ }
+{
+    if a < b { a } else { b }
+}
+
+// The bytes from column x on that lie inside, if all three slices have them. Answers how many pixels.
+fn number_whole(
+    numbers: &mut [u8],
+    at: usize,
+    old: &[u8],
+    new: &[u8],
+    count: u16,
+    row: Row,
+    white: u8,
+    x: u16,
+) -> u16
+    requires { ⌜ (at < 2 ^ 33) × (x < count) ⌝ }
+    ensures { λ r. ⌜ (x + r ≤ count)
+        × (now (numbers .exit) ≡ filled (λ k. numberIn row white (now (old .entry)) (now (new .entry)) (x + k)) at r (now (numbers .entry))) ⌝ }
+{
+    let n = bytes_from(count, row, x);
+    let place = row.row as usize * 100 + x as usize / 8;
+    if place + n as usize <= least(old.len(), new.len()) {
+        if at + n as usize * 8 <= numbers.len() {
+            number_bytes(numbers, at, old, new, place, n as usize, white);
+            return n * 8;
+        }
+    }
+    0
+}
+
+// The next pixels of a row that shows the columns of the RAM in their order, from column x on. Answers
 // how many.
 fn number_some(
+    numbers: &mut [u8],
+    at: usize,
+    old: &[u8],
+    new: &[u8],
+    count: u16,
+    row: Row,
+    white: u8,
+    x: u16,
+) -> u16
+    requires { ⌜ (at < 2 ^ 33) × (x < count) ⌝ }
+    ensures { λ r. ⌜ Some r x count
+        × (now (numbers .exit) ≡ filled (λ k. numberIn row white (now (old .entry)) (now (new .entry)) (x + k)) at r (now (numbers .entry))) ⌝ }
+{
+    let alone = leave_some(numbers, at, count, row, x);
+    if 0 < alone {
+        return alone;
+    }
+    let whole = number_whole(numbers, at, old, new, count, row, white, x);
+    if 0 < whole {
+        return whole;
+    }
+    store(numbers, at, number_in(old, new, row, white, x as u32));
+    1
+}
+
+// A row that shows the columns of the RAM in their order.
+fn row_in_order(
+    numbers: &mut [u8],
+    at: usize,
+    old: &[u8],
+    new: &[u8],
+    count: u16,
+    row: Row,
+    white: u8,
+)
+    requires { ⌜ at < 2 ^ 32 ⌝ }
+    ensures { λ r. ⌜ now (numbers .exit)
+        ≡ filled (numberIn row white (now (old .entry)) (now (new .entry))) at count (now (numbers .entry)) ⌝ }
+{
+    let mut x: u16 = 0;
+    while x < count {
+        let n = number_some(numbers, at + x as usize, old, new, count, row, white, x);
+        x += n;
+    }
+}
+
+// A row pixel by pixel.
+fn row_singly(
     numbers: &mut [u8],
     at: usize,
     old: &[u8],
@@ -284,32 +414,29 @@ fn number_some(
     active: Area,
     row: Row,
     white: u8,
-    x: u16,
-) -> u16
-    requires { ⌜ (at < 2 ^ 32) × (x < columns .count) ⌝ }
-    ensures { λ r. ⌜ Some r x (columns .count)
-        × (now (numbers .exit) ≡ filled
-        (λ k. numberIn row white (now (old .entry)) (now (new .entry)) (shownAt columns (active .x0) (active .x1) (x + k)))
-        (at + x) r (now (numbers .entry))) ⌝ }
+)
+    requires { ⌜ at < 2 ^ 32 ⌝ }
+    ensures { λ r. ⌜ now (numbers .exit)
+        ≡ filled (numberAt row white (now (old .entry)) (now (new .entry)) columns active) at (columns .count) (now (numbers .entry)) ⌝ }
 {
-    if whole_byte(columns, row, x) {
-        let place = row.row as usize * 100 + x as usize / 8;
-        eight(
-            numbers,
-            at + x as usize,
-            byte_at(old, place),
-            byte_at(new, place),
-            white,
-        );
-        return 8;
+    let count = columns.count;
+    for x in 0u16..count {
+        let c = shown(columns, active.x0, active.x1, x);
+        store(numbers, at + x as usize, number_in(old, new, row, white, c));
     }
-    let c = shown(columns, active.x0, active.x1, x);
-    let n = number_in(old, new, row, white, c);
-    store(numbers, at + x as usize, n);
-    1
 }
 
-// The numbers of a row of the panel, from the place at on.
+// Whether the panel shows the columns of the RAM in their order.
+fn in_order(columns: Scan) -> bool
+    ensures { λ r. ⌜ r ≡ inOrder columns ⌝ }
+{
+    if columns.reversed {
+        return false;
+    }
+    columns.straight
+}
+
+// The numbers of a row of the panel, from the place at on: row is what it shows.
 fn number_row(
     numbers: &mut [u8],
     at: usize,
@@ -322,15 +449,28 @@ fn number_row(
 )
     requires { ⌜ at < 2 ^ 32 ⌝ }
     ensures { λ r. ⌜ now (numbers .exit)
-        ≡ filled (λ x. numberIn row white (now (old .entry)) (now (new .entry)) (shownAt columns (active .x0) (active .x1) x))
-        at (columns .count) (now (numbers .entry)) ⌝ }
+        ≡ filled (numberAt row white (now (old .entry)) (now (new .entry)) columns active) at (columns .count) (now (numbers .entry)) ⌝ }
 {
-    let count = columns.count;
-    let mut x: u16 = 0;
-    while x < count {
-        let n = number_some(numbers, at, old, new, columns, active, row, white, x);
-        x += n;
+    if in_order(columns) {
+        row_in_order(numbers, at, old, new, columns.count, row, white);
+        return;
     }
+    row_singly(numbers, at, old, new, columns, active, row, white);
+}
+
+// The numbers of row y of the panel, from the place at on.
+fn row_numbers(numbers: &mut [u8], at: usize, old: &[u8], new: &[u8], p: Mapping, y: u16)
+    requires { ⌜ at < 2 ^ 32 ⌝ }
+    ensures { λ r. ⌜ now (numbers .exit)
+        ≡ filled (λ x. numberOf p (now (old .entry)) (now (new .entry)) x y) at (p .columns .count) (now (numbers .entry)) ⌝ }
+{
+    let columns = p.columns;
+    let rows = p.rows;
+    let active = p.active;
+    let area = p.area;
+    let r = shown(rows, active.y0, active.y1, y);
+    let row = row_at(active, area, r);
+    number_row(numbers, at, old, new, columns, active, row, p.white);
 }
 
 // The number of each pixel, row by row of the panel.
@@ -338,16 +478,10 @@ pub fn numbers(numbers: &mut [u8], old: &[u8], new: &[u8], p: Mapping)
     ensures { λ r. ⌜ now (numbers .exit)
         ≡ rowsFilled (numberOf p (now (old .entry)) (now (new .entry))) (p .columns .count) (p .rows .count) (now (numbers .entry)) ⌝ }
 {
-    let columns = p.columns;
-    let rows = p.rows;
-    let active = p.active;
-    let area = p.area;
-    let width = columns.count as usize;
-    let height = rows.count as usize;
+    let width = p.columns.count as usize;
+    let height = p.rows.count as usize;
     for y in 0usize..height {
-        let r = shown(rows, active.y0, active.y1, y as u16);
-        let row = row_at(active, area, r);
-        number_row(numbers, y * width, old, new, columns, active, row, p.white);
+        row_numbers(numbers, y * width, old, new, p, y as u16);
     }
 }
 

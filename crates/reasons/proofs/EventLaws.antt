@@ -8,7 +8,7 @@ use native.Mathlib.Nat.{zero-add}
 use native.Mathlib.Decide.{decLe}
 use native.Mathlib.Omega.{arith}
 use native.Mathlib.Numerals.{add-one}
-use lib.Dec.{leb}
+use lib.Dec.{eqb, leb}
 use borrow.Author.Tests.{leb-true, leb-false, ne-eqb}
 use Rattle.base.specs.Pick.{pick}
 use Rattle.base.proofs.Cases.{by-cases}
@@ -24,18 +24,22 @@ pub picked : {A : Type 0} (P : A → Type 0) (t : Bool) {a b : A} → (t ≡ tru
 picked P true p q = p refl
 picked P false p q = q refl
 
--- ---- a kind is listed for the value 0, or for none
-one-to-five : (kind : ℕ) → 1 ≤ kind → kind ≤ 5 → listed kind 0 ≡ true
-unfolding listed
-one-to-five zero l m = absurd (omega arith)
-one-to-five (suc zero) l m = refl
-one-to-five (suc (suc zero)) l m = refl
-one-to-five (suc (suc (suc zero))) l m = refl
-one-to-five (suc (suc (suc (suc zero)))) l m = refl
-one-to-five (suc (suc (suc (suc (suc zero))))) l m = refl
-one-to-five (suc (suc (suc (suc (suc (suc k)))))) l m = absurd (omega arith)
+-- ---- a kind is listed for this value, or for none
+abbrev pub someValue : ℕ → ℕ
+someValue kind = pick (eqb kind 6) 1 0
 
-none-else : (kind value : ℕ) → ((k : ℕ) → 1 ≤ k → k ≤ 5 → kind ≡ k → ⊥) → listed kind value ≡ false
+one-to-six : (kind : ℕ) → 1 ≤ kind → kind ≤ 6 → listed kind (someValue kind) ≡ true
+unfolding listed
+one-to-six zero l m = absurd (omega arith)
+one-to-six (suc zero) l m = refl
+one-to-six (suc (suc zero)) l m = refl
+one-to-six (suc (suc (suc zero))) l m = refl
+one-to-six (suc (suc (suc (suc zero)))) l m = refl
+one-to-six (suc (suc (suc (suc (suc zero))))) l m = refl
+one-to-six (suc (suc (suc (suc (suc (suc zero)))))) l m = refl
+one-to-six (suc (suc (suc (suc (suc (suc (suc k))))))) l m = absurd (omega arith)
+
+none-else : (kind value : ℕ) → ((k : ℕ) → 1 ≤ k → k ≤ 6 → kind ≡ k → ⊥) → listed kind value ≡ false
 unfolding listed
 none-else kind value other =
     simp (
@@ -44,22 +48,23 @@ none-else kind value other =
       ne-eqb kind 3 (other 3 (omega arith) (omega arith)),
       ne-eqb kind 4 (other 4 (omega arith) (omega arith)),
       ne-eqb kind 5 (other 5 (omega arith) (omega arith)),
+      ne-eqb kind 6 (other 6 (omega arith) (omega arith)),
     )
 
-pub known-some : (kind : ℕ) → known kind ≡ true → listed kind 0 ≡ true
+pub known-some : (kind : ℕ) → known kind ≡ true → listed kind (someValue kind) ≡ true
 known-some kind e =
     by-cases (leb 1 kind)
-    (λ l. by-cases (leb kind 5)
-    (λ m. one-to-five kind (leb-true _ _ l) (leb-true _ _ m))
+    (λ l. by-cases (leb kind 6)
+    (λ m. one-to-six kind (leb-true _ _ l) (leb-true _ _ m))
     (λ m. absurd (true≢false (sym e ∙ simp (l, m)))))
     (λ l. absurd (true≢false (sym e ∙ simp l)))
 
 pub known-none : (kind value : ℕ) → known kind ≡ false → listed kind value ≡ false
 known-none kind value e =
     by-cases (leb 1 kind)
-    (λ l. by-cases (leb kind 5)
+    (λ l. by-cases (leb kind 6)
     (λ m. absurd (true≢false (sym (simp (l, m)) ∙ e)))
-    (λ m. none-else kind value (λ k g h p. omega (arith, leb-false kind 5 m))))
+    (λ m. none-else kind value (λ k g h p. omega (arith, leb-false kind 6 m))))
     (λ l. none-else kind value (λ k g h p. omega (arith, leb-false 1 kind l)))
 
 -- ---- one event after the other

@@ -81,7 +81,7 @@ pub told-variant : text ((2 ∷ replicate 311 0) ++ trailer 0 0) ≡ ascii "refu
 unfolding wordsOf nameOf reasonOf badReason offsetOf countOf grouped digits
 told-variant = refl
 
-pub told-flags : text ((1 ∷ 8 ∷ replicate 310 0) ++ trailer 0 0) ≡ ascii "refused 9: bad event: flags 8, at most 7"
+pub told-flags : text ((1 ∷ 16 ∷ replicate 310 0) ++ trailer 0 0) ≡ ascii "refused 9: bad event: flags 16, at most 15"
 unfolding wordsOf nameOf reasonOf badReason offsetOf countOf grouped digits
 told-flags = refl
 

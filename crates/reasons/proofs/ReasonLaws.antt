@@ -19,7 +19,7 @@ use Rattle.capture.proofs.CaptureLaws.{Whole, either-length}
 use Rattle.reasons.specs.declared.causes.Reason.{Reason}
 use Rattle.reasons.specs.declared.causes.Reason.the-variants as reason
 use Rattle.reasons.specs.Reasons.{lengthFits, firstFault, badReason, reasonOf, refusalOf}
-use Rattle.reasons.proofs.EventLaws.{picked, known-some, known-none, First, Faulty, events-faulty, events-number}
+use Rattle.reasons.proofs.EventLaws.{picked, someValue, known-some, known-none, First, Faulty, events-faulty, events-number}
 
 -- ---- which refusal it is of
 refusal-picked : (t : Bool) (r s : Reason) → refusalOf (pick t r s) ≡ pick t (refusalOf r) (refusalOf s)
@@ -122,7 +122,7 @@ Holds file (reason.Offset offset count) = (offset ≡ offsetOf file) × (count �
 Holds file (reason.Length bytes offset) =
     (bytes ≡ length file) × (offset ≡ offsetOf file) × (bytes ≡ offset + 320 → ⊥) × (bytes ≡ offset + 328 → ⊥)
 Holds file (reason.Variant v) = (v ≡ variantAt file (offsetOf file)) × (1 < v)
-Holds file (reason.Flags f) = (f ≡ flagsAt file (offsetOf file)) × (7 < f)
+Holds file (reason.Flags f) = (f ≡ flagsAt file (offsetOf file)) × (15 < f)
 Holds file (reason.Kind i kind) = Faulty file (countOf file) (reason.Kind i kind)
 Holds file (reason.Value i kind value) = Faulty file (countOf file) (reason.Value i kind value)
 Holds file reason.Neither = Faulty file (countOf file) reason.Neither
@@ -143,7 +143,7 @@ module _ (file : List ℕ) where
   unfolding badReason
   bad-holds =
       picked (Holds file) (ltb 1 (variantAt file (offsetOf file))) (λ t. (refl, ltb-true _ _ t))
-      (λ _. picked (Holds file) (ltb 7 (flagsAt file (offsetOf file))) (λ t. (refl, ltb-true _ _ t))
+      (λ _. picked (Holds file) (ltb 15 (flagsAt file (offsetOf file))) (λ t. (refl, ltb-true _ _ t))
       (λ _. events-hold file (firstFault file 0 (countOf file)) (events-faulty file (countOf file))))
 
   pub holds : Holds file (reasonOf file)
@@ -159,7 +159,7 @@ module _ (file : List ℕ) where
 
 -- ---- and each test before the one that is named passes
 abbrev Checked : List ℕ → Type 0
-Checked file = Whole file × (variantAt file (offsetOf file) ≤ 1) × (flagsAt file (offsetOf file) ≤ 7)
+Checked file = Whole file × (variantAt file (offsetOf file) ≤ 1) × (flagsAt file (offsetOf file) ≤ 15)
 
 abbrev pub Passed : List ℕ → Reason → Type 0
 Passed file (reason.Short bytes) = Unit
@@ -188,7 +188,7 @@ module _ (file : List ℕ) where
   unfolding badReason
   bad-passed w =
       picked (Passed file) (ltb 1 (variantAt file (offsetOf file))) (λ _. w)
-      (λ v. picked (Passed file) (ltb 7 (flagsAt file (offsetOf file))) (λ _. (w, ltb-false _ _ v))
+      (λ v. picked (Passed file) (ltb 15 (flagsAt file (offsetOf file))) (λ _. (w, ltb-false _ _ v))
       (λ f. events-pass file (firstFault file 0 (countOf file)) (events-faulty file (countOf file)) (w, ltb-false _ _ v, ltb-false _ _ f)))
 
   pub passed : Passed file (reasonOf file)
@@ -215,7 +215,7 @@ module _ (file : List ℕ) where
       (h .0, h .1, λ value. known-none kind value (h .2))
 
   pub value-first : (i kind value : ℕ) → reasonOf file ≡ reason.Value i kind value
-      → First file (countOf file) i × (kind ≡ kindAt file i) × (value ≡ valueAt file i) × (listed kind 0 ≡ true)
+      → First file (countOf file) i × (kind ≡ kindAt file i) × (value ≡ valueAt file i) × (listed kind (someValue kind) ≡ true)
   value-first i kind value e =
       let h : Holds file (reason.Value i kind value) = subst (Holds file) e (holds file) in
       (h .0, h .1, h .2, known-some kind (h .3))

@@ -10,9 +10,9 @@ use Rattle.capture.specs.Refused.{listed}
 use Rattle.reasons.specs.declared.causes.Reason.{Reason}
 use Rattle.reasons.specs.declared.causes.Reason.the-variants as reason
 
--- the kinds that are listed: 1 command, 2 data, 3 read, 4 reset, 5 advance
+-- the kinds that are listed: 1 command, 2 data, 3 read, 4 reset, 5 advance, 6 VCOM's rule
 abbrev pub known : ℕ → Bool
-known kind = between 1 5 kind
+known kind = between 1 6 kind
 
 -- what is wrong with event i: its value, if its kind is listed
 abbrev pub fault : ℕ → ℕ → ℕ → Reason
@@ -24,11 +24,11 @@ firstFault file i zero = reason.Neither
 firstFault file i (suc n) =
     pick (listed (kindAt file i) (valueAt file i)) (firstFault file (suc i) n) (fault i (kindAt file i) (valueAt file i))
 
--- 9: variant above 1, a flag bit above bit 2, or an event kind or value not listed
+-- 9: variant above 1, a flag bit above bit 3, or an event kind or value not listed
 unfoldable pub badReason : List ℕ → ℕ → ℕ → Reason
 badReason file offset count =
     pick (ltb 1 (variantAt file offset)) (reason.Variant (variantAt file offset))
-    (pick (ltb 7 (flagsAt file offset)) (reason.Flags (flagsAt file offset))
+    (pick (ltb 15 (flagsAt file offset)) (reason.Flags (flagsAt file offset))
     (firstFault file 0 count))
 
 -- the lengths of a file by its trailer's offset: without a rate, and with one

@@ -7,7 +7,7 @@ pub enum Reason {
     Offset { offset: u32, count: u32 },
     // The file's length is neither that offset + 320 nor, with a rate, that offset + 328.
     Length { bytes: u64, offset: u32 },
-    // 9: a variant above 1, or a flag above bit 2.
+    // 9: a variant above 1, or a flag above bit 3.
     Variant(u8),
     Flags(u8),
     // The first event that is not listed, counted from 0: for its kind, or for its value.

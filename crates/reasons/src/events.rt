@@ -2,9 +2,9 @@
 ghost use mathlib.Core.Path.{_≡_};
 ghost use Rattle.reasons.specs.Reasons as rule;
 use crate::causes::Reason;
-use capture::ADVANCE;
 use capture::COMMAND;
 use capture::EVENT_BYTES;
+use capture::VCOM_RULE;
 use capture::byte;
 use capture::listed;
 
@@ -20,7 +20,7 @@ fn known(kind: u8) -> bool
     if kind < COMMAND {
         return false;
     }
-    kind <= ADVANCE
+    kind <= VCOM_RULE
 }
 
 // What is wrong with an event that is not listed.

@@ -22,8 +22,8 @@ const MOST_BYTES: u64 = 65_536;
 
 const LAST_VARIANT: u8 = 1;
 
-// The three flags.
-const ALL_FLAGS: u8 = 7;
+// The four flags.
+const ALL_FLAGS: u8 = 15;
 
 // The number of four bytes from a place on.
 fn word(file: &[u8], at: usize) -> u32

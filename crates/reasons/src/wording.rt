@@ -101,7 +101,7 @@ pub fn because(text: &mut [u8], held: usize, r: Reason) -> usize
         Reason::Offset { offset, count } => offset_words(text, held, offset, count),
         Reason::Length { bytes, offset } => length_words(text, held, bytes, offset),
         Reason::Variant(v) => between(text, held, b": variant ", v as u64, b", at most 1"),
-        Reason::Flags(f) => between(text, held, b": flags ", f as u64, b", at most 7"),
+        Reason::Flags(f) => between(text, held, b": flags ", f as u64, b", at most 15"),
         Reason::Kind { event, kind } => kind_words(text, held, event, kind),
         Reason::Value { event, kind, value } => value_words(text, held, event, kind, value),
         Reason::Neither => put(text, held, b""),

@@ -26,7 +26,7 @@ isPanel form.Png = false
 abbrev pub numberFor : Form → ℕ → Uc8253Config → ℕ
 numberFor f n g = pick (isPanel f) (pick (eqb n 0) (pick (tooMany g) 10 0) n) n
 
--- 8, 9, 1 to 4; for `panel` 10
+-- 8, 9, 1 to 4, 13; for `panel` 10
 unfoldable pub testedBy : Form → List ℕ → ℕ
 testedBy f file = numberFor f (fileRefused file) (configIn file)
 

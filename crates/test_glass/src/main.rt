@@ -15,6 +15,8 @@ fn replay(s: &[u8]) {
     print::summary(Table::Gray, grays);
     let refreshes = table::compared(Table::Refresh, s, grays.next);
     print::summary(Table::Refresh, refreshes);
+    let ruled = table::compared(Table::Ruled, s, refreshes.next);
+    print::summary(Table::Ruled, ruled);
 }
 
 fn main() {

@@ -14,6 +14,9 @@ fn name(table: Table) {
         Table::Refresh => {
             io::write_all(STDOUT_FILENO, b"refresh");
         }
+        Table::Ruled => {
+            io::write_all(STDOUT_FILENO, b"ruled");
+        }
     }
 }
 

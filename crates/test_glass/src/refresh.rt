@@ -1,6 +1,7 @@
 // A row of a refresh of one pixel: BLACK SWING GREY PERIOD, the third to fifth byte of PWR, the
 // table's number, whether reset cut it and after how many nanoseconds, the five tables as a count
-// and so many bytes, zeros after; then the answers DURATION and GREY.
+// and so many bytes, zeros after; then the answers DURATION and GREY. Before all that, in a row of
+// either rule, VCOM's rule, 1 or 2.
 use crate::table::Checked;
 use crate::table::byte;
 use base::least;
@@ -35,7 +36,7 @@ struct Loaded {
     next: usize,
 }
 
-fn read_waveform(s: &[u8], at: usize, levels: Levels, period: u64) -> Loaded {
+fn read_waveform(s: &[u8], at: usize, levels: Levels, period: u64, by_frame: bool) -> Loaded {
     let mut luts = [[0u8; 42]; LUTS];
     let mut next = at;
     for k in 0..LUTS {
@@ -44,7 +45,7 @@ fn read_waveform(s: &[u8], at: usize, levels: Levels, period: u64) -> Loaded {
         luts[k] = bytes;
         next = lut.next;
     }
-    let waveform = Waveform::new(luts, levels, period);
+    let waveform = Waveform::new(luts, levels, period, by_frame);
     Loaded { waveform, next }
 }
 
@@ -76,7 +77,7 @@ fn answers(s: &[u8], at: usize, w: Waveform, e: Ending, start: u64) -> Checked {
     }
 }
 
-pub(crate) fn refresh_row(s: &[u8], at: usize) -> Checked {
+fn row_by(s: &[u8], at: usize, by_frame: bool) -> Checked {
     let black = number(s, at);
     let swing = number(s, black.next);
     let grey = number(s, swing.next);
@@ -88,7 +89,7 @@ pub(crate) fn refresh_row(s: &[u8], at: usize) -> Checked {
     let cut = number(s, lut.next);
     let elapsed = number(s, cut.next);
     let levels = Levels::from_power_setting([0, 0, byte(p3.value), byte(p4.value), byte(p5.value)]);
-    let loaded = read_waveform(s, elapsed.next, levels, period.value);
+    let loaded = read_waveform(s, elapsed.next, levels, period.value, by_frame);
     let ending = Ending {
         lut: lut.value as usize,
         swing: swing.value,
@@ -99,4 +100,15 @@ pub(crate) fn refresh_row(s: &[u8], at: usize) -> Checked {
     let start = glass::level(byte(grey.value), swing.value);
     let waveform = loaded.waveform;
     answers(s, loaded.next, waveform, ending, start)
+}
+
+// A refresh by rule 1.
+pub(crate) fn refresh_row(s: &[u8], at: usize) -> Checked {
+    row_by(s, at, false)
+}
+
+// A refresh by the rule that the row begins with.
+pub(crate) fn ruled_row(s: &[u8], at: usize) -> Checked {
+    let rule = number(s, at);
+    row_by(s, rule.next, rule.value == 2)
 }

@@ -12,8 +12,9 @@ pub enum Table {
     Level,
     // Rows of STATE SWING GREY.
     Gray,
-    // Rows of a refresh of one pixel.
+    // Rows of a refresh of one pixel, by rule 1 of VCOM, and by either.
     Refresh,
+    Ruled,
 }
 
 // Whether a row's answers are the functions', and the place after it.
@@ -58,6 +59,7 @@ fn check_row(table: Table, s: &[u8], at: usize) -> Checked {
         Table::Level => level_row(s, at),
         Table::Gray => gray_row(s, at),
         Table::Refresh => refresh::refresh_row(s, at),
+        Table::Ruled => refresh::ruled_row(s, at),
     }
 }
 

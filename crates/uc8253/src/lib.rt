@@ -122,3 +122,31 @@ pub fn read_data(
         byte: Read::Nothing,
     }
 }
+
+// VCOM's rule from the next refresh on: its table by its own frames, or by the pixel's phases (2026-08).
+pub fn set_vcom_rule(
+    p: Uc8253,
+    at: u64,
+    by_frame: bool,
+    old: &mut [u8],
+    new: &mut [u8],
+    states: &mut [i64],
+    numbers: &mut [u8],
+    picture: &mut [u8],
+    rows: &mut [u64],
+) -> Answer
+    ensures { λ r. ⌜ Called (ask.vcomRule at «by_frame») p (r .chip) (r .refused) old new states numbers picture rows ⌝ }
+{
+    let come = advance(p, at, old, new, states, numbers, picture, rows);
+    let here = come.chip;
+    let refused = come.refused;
+    if refused.none() {
+        let mut chip = here;
+        chip.mode.vcom_by_frame = by_frame;
+        return Answer { chip, refused };
+    }
+    Answer {
+        chip: here,
+        refused,
+    }
+}

@@ -6,7 +6,7 @@ use Prim.Native.Nat.{ℕ, zero, suc, _+_, _*_, _-_, _≤_, _<_, min, max}
 use native.Mathlib.Nat.{div-lt-iff-lt-mul}
 use native.Mathlib.Omega.{arith}
 use lib.Dec.{lit<, lit≤, leb, eqb}
-use lib.IntN.{pos}
+use lib.IntN.{ℤ, pos}
 use lib.ListN.{length}
 use Rattle.base.proofs.Cases.{both}
 use Rattle.config.specs.declared.Uc8253Config.{Uc8253Config}
@@ -35,7 +35,7 @@ use Rattle.controller.specs.declared.Uc8253.{Uc8253}
 use Rattle.controller.specs.declared.reads.Read.{Read}
 use Rattle.controller.specs.declared.reads.Read.the-variants.{Byte, Nothing}
 use Rattle.controller.specs.World.{World, Buffers, world, onChip}
-use Rattle.controller.specs.Setters.{withCurrent}
+use Rattle.controller.specs.Setters.{withCurrent, modeOf}
 use Rattle.controller.specs.Tell.{tell}
 use Rattle.controller.specs.Arrives.{timed, rest, endedBy, ended, arrived}
 use Rattle.controller.specs.Command.{closed, barredNote, begun, executed, passed, commandByte}
@@ -88,7 +88,7 @@ empty-reset p e (suc (suc (suc (suc (suc k))))) = rw e
 record Rested (p : Uc8253) : Type 0 where
   chip : p .config .variant ≡ variant.Uc8279d
   rests : p .operation ≡ rest
-  mode : p .mode ≡ record { power = power.Running; powered = false; «data_flag» = false }
+  mode : p .mode ≡ modeOf power.Running false false (p .mode .«vcom_by_frame»)
   whole : p .regs .partial ≡ false
 
 abbrev identity : List ℕ
@@ -267,7 +267,7 @@ acceptance = record {
   state-before = state-before;
   state-after = state-after;
   empty-long = λ w e h. rw (longest-empty (w .tables) e) (omega arith);
-  empty-driven = λ w e black k. rw (e k);
+  empty-driven = λ w e black k. both (λ (ds : List ℤ). ds ≡ []) (w .«vcom_by_frame») (rw (e k)) (rw (e k));
   empty-reset = empty-reset;
   empty-met = λ v. empty-reset (made (slow v) bench .chip) (luts-met v);
   made-met = made-met;

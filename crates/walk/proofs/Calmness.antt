@@ -12,7 +12,7 @@ use Rattle.command.specs.declared.kinds.Kind.the-variants as kind
 use Rattle.command.specs.Kinds.{kindOf, takesByte}
 use Rattle.registers.specs.Flags.{bitSet, copiesNewToOld}
 use Rattle.registers.specs.Written.{writtenOf}
-use Rattle.controller.specs.Ask.{Ask, command, datum, reading, advance, reset, taking, askBusy, askDeadline, askBit, askRow}
+use Rattle.controller.specs.Ask.{Ask, command, datum, reading, advance, reset, vcomRule, taking, askBusy, askDeadline, askBit, askRow}
 use Rattle.walk.specs.Machine.{busy, restarts, Out, done, reached, due, settled, dropped, able, refresh, acted, ordered, commanded}
 use Rattle.walk.specs.Machine.{softened, streamed, stored, took, tookBy, heard, given, cleared, lowered, raised, stepped, fresh}
 use Rattle.walk.specs.Kept.{Order, Hearing, none, ignored, under, Task, powersUp, powersDown}
@@ -134,6 +134,7 @@ calm-stepped g m (reading t) c = calm-settled g t m c
 calm-stepped g m (advance t) c = calm-settled g t m c
 calm-stepped g m (reset t true) c = calm-lowered g (settled g t m) (calm-settled g t m c)
 calm-stepped g m (reset t false) c = calm-raised g (settled g t m .machine) (calm-settled g t m c)
+calm-stepped g m (vcomRule t x) c = let s = calm-settled g t m c in record { still = s .still; deaf = s .deaf }
 calm-stepped g m taking c = c
 calm-stepped g m (askBusy t) c = c
 calm-stepped g m askDeadline c = c

@@ -20,9 +20,9 @@ use Rattle.controller.specs.TurnedBack.{makingRefused}
 use Rattle.controller.specs.Calls.{takeCall, made, firstChip, firstBuffers}
 use Rattle.controller.specs.Sound.{Sound}
 use Rattle.controller.proofs.Sound.{sound-made, sound-arrived, sound-command, sound-data}
-use Rattle.controller.proofs.Sound.{sound-reading, sound-reset, sound-take, never-turned, home}
+use Rattle.controller.proofs.Sound.{sound-reading, sound-reset, sound-ruled, sound-take, never-turned, home}
 use Rattle.walk.specs.Machine.{Fed, fresh, fed1, framesFed1, framesAt, ran, framesFed, stepped}
-use Rattle.controller.specs.Ask.{Ask, command, datum, reading, advance, reset, taking, askBusy, askDeadline, askBit, askRow}
+use Rattle.controller.specs.Ask.{Ask, command, datum, reading, advance, reset, vcomRule, taking, askBusy, askDeadline, askBit, askRow}
 use Rattle.walk.specs.Kept.{Machine}
 use Rattle.walk.specs.Calls.{Call, turned, next, after, OwnFor, OwnBuffers, IsByte, Bytes}
 use Rattle.walk.specs.Calls.{fedAt, fedBy, start, place, stateAt, framesBetween, Demand3}
@@ -110,6 +110,7 @@ sound-moved (datum t x) w b s = sound-data x (arrived t w) b (sound-arrived t w 
 sound-moved (reading t) w b s = sound-reading (arrived t w) (sound-arrived t w s)
 sound-moved (advance t) w b s = sound-arrived t w s
 sound-moved (reset t asserted) w b s = sound-reset asserted (arrived t w) (sound-arrived t w s)
+sound-moved (vcomRule t x) w b s = sound-ruled x (arrived t w) (sound-arrived t w s)
 sound-moved taking w b s = subst (λ (v : World). Sound v) (taken-is w s) (sound-take w s)
 sound-moved (askBusy t) w b s = s
 sound-moved askDeadline w b s = s

@@ -1,5 +1,6 @@
 -- Lists that run, computed by the checker. At 1 GHz: a refresh ends by itself, a call is turned back, a refresh is cut after two whole
--- frames. At an odd rate: of two resets a cycle apart the earlier cuts after one frame and the later after two.
+-- frames. At an odd rate: of two resets a cycle apart the earlier cuts after one frame and the later after two. By either rule of VCOM:
+-- a refresh in whose midst the rule changes, and one after it.
 use mathlib.Core.Path.{_≡_, refl, ap, _∙_}
 use mathlib.Core.Bool.{true, false}
 use mathlib.Core.List.{List, [], _∷_, _++_, map}
@@ -16,7 +17,7 @@ use Rattle.config.specs.declared.Variant.the-variants as variant
 use Rattle.glass.specs.Walk.{hold, step, walk}
 use Rattle.controller.specs.World.{World}
 use Rattle.controller.specs.TurnedBack.{makingRefused}
-use Rattle.controller.specs.Ask.{Ask, command, advance, reset, taking, askBusy}
+use Rattle.controller.specs.Ask.{Ask, command, datum, advance, reset, vcomRule, taking, askBusy}
 use Rattle.walk.specs.Machine.{Fed, fresh, ran, framesFed}
 use Rattle.walk.specs.Calls.{Call, after, start, place, stateAt, framesBetween}
 use Rattle.walk.specs.OnePixel.{onePixel, bench, refreshCalls, feed, slow, driving}
@@ -115,3 +116,30 @@ one-more = walks odd rightly (cutAfter 1006) (fair 1006) 17 (lit≤ tt) (replica
 two-more : oddState 1007 17 ≡ pos 700_000
 unfolding all step hold lending cutAfter refreshCalls
 two-more = walks odd rightly (cutAfter 1007) (fair 1007) 17 (lit≤ tt) (replicate 5 (pos 140_000)) refl
+
+-- ---- VCOM by rule 1, then by rule 2 (2026-08): 20 is loaded with one frame of code 1, 14 V; the pixel's three frames are of code 2,
+-- -14 V. By rule 1 VCOM stays at 14 V for them; by rule 2 it is at 0 after its first. The refresh of 100 ends by rule 1, though the rule
+-- changes at 105
+unfoldable bothRules : List Fed
+bothRules =
+    map feed
+    (command 0 0x00 ∷ datum 0 0x3F ∷ command 0 0x04
+    ∷ command 100 0x20 ∷ datum 100 0x40 ∷ datum 100 0x01 ∷ datum 100 0x00 ∷ datum 100 0x00 ∷ datum 100 0x00 ∷ datum 100 0x01
+    ∷ command 100 0x22 ∷ datum 100 0x80 ∷ datum 100 0x03 ∷ datum 100 0x00 ∷ datum 100 0x00 ∷ datum 100 0x00 ∷ datum 100 0x01
+    ∷ command 100 0x13 ∷ datum 100 0x80
+    ∷ command 100 0x12 ∷ vcomRule 105 true ∷ advance 400
+    ∷ command 1000 0x12 ∷ advance 2000
+    ∷ [])
+
+sensible : plain bothRules ≡ true
+unfolding bothRules
+sensible = refl
+
+by-rule-1 : stateAt 0 (place (panel billion gigahertz bothRules sensible) bench (calls billion gigahertz bothRules sensible) 22) ≡ pos 840_000
+unfolding all step hold lending bothRules
+by-rule-1 = walks billion gigahertz bothRules sensible 22 (lit≤ tt) (replicate 3 (pos 280_000)) refl
+
+by-rule-2 : stateAt 0 (place (panel billion gigahertz bothRules sensible) bench (calls billion gigahertz bothRules sensible) 24) ≡ pos 1_400_000
+unfolding all step hold lending bothRules
+by-rule-2 =
+    walks billion gigahertz bothRules sensible 24 (lit≤ tt) (replicate 4 (pos 280_000) ++ replicate 2 (pos 140_000)) refl

@@ -10,19 +10,19 @@ use Rattle.controller.specs.declared.Refresh.{Refresh}
 use Rattle.controller.specs.declared.Work.{Work}
 use Rattle.controller.specs.declared.Work.the-variants as work
 use Rattle.controller.specs.World.{World, onChip}
-use Rattle.controller.specs.Setters.{withLog}
+use Rattle.controller.specs.Setters.{withLog, withVcomRule}
 use Rattle.controller.specs.Arrives.{timed, endedBy, ended, arrived}
 use Rattle.controller.specs.Command.{commandByte}
 use Rattle.controller.specs.DataByte.{dataByte}
 use Rattle.controller.specs.Reading as rd
 use Rattle.controller.specs.Refresh.{endedRefresh, copiedAfter, finished}
 use Rattle.controller.specs.Reset.{resetEdge}
-use Rattle.controller.specs.Ask.{Ask, command, datum, reading, advance, reset, taking, askBusy, askDeadline, askBit, askRow}
+use Rattle.controller.specs.Ask.{Ask, command, datum, reading, advance, reset, vcomRule, taking, askBusy, askDeadline, askBit, askRow}
 use Rattle.controller.specs.Counting.{own}
 use Rattle.walk.specs.Machine.{whole, Out, quiet, done, reached, due, settled, commanded, given, lowered, raised, stepped}
 use Rattle.walk.specs.Kept.{Noted, Task, powersUp, powersDown, fallsAsleep, resetsSoftly}
 use Rattle.walk.specs.Kept.{resetsHardly, drives, Job, idle, until, Machine}
-use Rattle.walk.specs.Parts.{withClock, withJob}
+use Rattle.walk.specs.Parts.{withClock, withJob, withRule}
 use Rattle.walk.proofs.Seen.{machineOf, View, view, statesAfter, drivenBy, Calm, Panelled}
 use Rattle.walk.proofs.Arrival.{view-arrived, waits-arrived}
 use Rattle.walk.proofs.Commands.{view-command}
@@ -117,6 +117,7 @@ moved (datum t b) w = dataByte own b (arrived t w)
 moved (reading t) w = rd.reading (arrived t w)
 moved (advance t) w = arrived t w
 moved (reset t asserted) w = resetEdge own asserted (arrived t w)
+moved (vcomRule t x) w = onChip (withVcomRule x) (arrived t w)
 moved taking w = onChip (λ p. withLog (logEmptied (p .log)) p) w
 moved (askBusy t) w = w
 moved askDeadline w = w
@@ -129,6 +130,7 @@ apt-moved (datum t b) w q = apt-data b (arrived t w) (apt-arrived t w q)
 apt-moved (reading t) w q = apt-reading (arrived t w) (apt-arrived t w q)
 apt-moved (advance t) w q = apt-arrived t w q
 apt-moved (reset t asserted) w q = apt-edge asserted (arrived t w) (apt-arrived t w q)
+apt-moved (vcomRule t x) w q = apt-arrived t w q
 apt-moved taking w q = q
 apt-moved (askBusy t) w q = q
 apt-moved askDeadline w q = q
@@ -151,6 +153,8 @@ view-moved (reset t true) w c q p = view-low (arrived t w) ∙ ap lowView (view-
 view-moved (reset t false) w c q p =
     view-high (arrived t w)
     ∙ ap (λ (v : View). record { config = v .config; machine = raised (v .config) (v .machine); states = v .states }) (view-arrived t w c)
+view-moved (vcomRule t x) w c q p =
+    ap (λ (v : View). record { config = v .config; machine = withRule x (v .machine); states = v .states }) (view-arrived t w c)
 view-moved taking w c q p = refl
 view-moved (askBusy t) w c q p = refl
 view-moved askDeadline w c q p = refl

@@ -19,7 +19,7 @@ use Rattle.controller.specs.Calls as calls
 use Rattle.controller.specs.Sound.{Sound}
 use Rattle.controller.proofs.TurnedAway.{did-no}
 use Rattle.walk.specs.Machine.{Fed}
-use Rattle.controller.specs.Ask.{Ask, command, datum, reading, advance, reset, taking, askBusy, askDeadline, askBit, askRow}
+use Rattle.controller.specs.Ask.{Ask, command, datum, reading, advance, reset, vcomRule, taking, askBusy, askDeadline, askBit, askRow}
 use Rattle.walk.specs.Calls.{Call, handed, result, turned, next, OwnFor, OwnBuffers, IsByte, Bytes, fedAt, fedBy, start}
 use Rattle.controller.specs.Ask.{did, refusedBy, writes}
 use Rattle.walk.proofs.Seen.{jobOf, machineOf, Panelled}
@@ -34,6 +34,7 @@ did-yes (datum t b) w e = rw e
 did-yes (reading t) w e = rw e
 did-yes (advance t) w e = rw e
 did-yes (reset t asserted) w e = rw e
+did-yes (vcomRule t x) w e = rw e
 did-yes taking w e = rw e
 did-yes (askBusy t) w e = refl
 did-yes askDeadline w e = refl
@@ -52,6 +53,7 @@ spares (datum t b) w = tt
 spares (reading t) w = tt
 spares (advance t) w = tt
 spares (reset t asserted) w = tt
+spares (vcomRule t x) w = tt
 spares taking w = by-cases (eqb (calls.takingRefused (w .chip) (w .lent .rows)) 0) (λ e. rw e) (λ e. rw e)
 spares (askBusy t) w = refl
 spares askDeadline w = refl
@@ -66,6 +68,7 @@ place-on (datum t b) at l q e own = rw (e, own refl)
 place-on (reading t) at l q e own = rw (e, own refl)
 place-on (advance t) at l q e own = rw (e, own refl)
 place-on (reset t asserted) at l q e own = rw (e, own refl)
+place-on (vcomRule t x) at l q e own = rw (e, own refl)
 place-on taking at l q e own = rw e
 place-on (askBusy t) at l q e own = rw e
 place-on askDeadline at l q e own = rw e
@@ -197,6 +200,7 @@ module _ (home : (w : World) → Sound w → foreignRecord (w .chip) ≡ false) 
   sound-accepted never (reading t) w s = never false t w s
   sound-accepted never (advance t) w s = never false t w s
   sound-accepted never (reset t asserted) w s = never asserted t w s
+  sound-accepted never (vcomRule t x) w s = never false t w s
   sound-accepted never taking w s = take-accepted w s
   sound-accepted never (askBusy t) w s = lent-accepted w s true refl
   sound-accepted never askDeadline w s = lent-accepted w s true refl
@@ -221,6 +225,7 @@ isByte (datum t b) = ltb b 256
 isByte (reading t) = true
 isByte (advance t) = true
 isByte (reset t asserted) = true
+isByte (vcomRule t x) = true
 isByte taking = true
 isByte (askBusy t) = true
 isByte askDeadline = true
@@ -237,6 +242,7 @@ is-byte (datum t b) e = ltb-true b 256 e
 is-byte (reading t) e = tt
 is-byte (advance t) e = tt
 is-byte (reset t asserted) e = tt
+is-byte (vcomRule t x) e = tt
 is-byte taking e = tt
 is-byte (askBusy t) e = tt
 is-byte askDeadline e = tt
@@ -269,6 +275,7 @@ turned-none (datum t b) at e = rw (lent-none false t (at .chip))
 turned-none (reading t) at e = rw (lent-none false t (at .chip))
 turned-none (advance t) at e = rw (lent-none false t (at .chip))
 turned-none (reset t asserted) at e = rw (lent-none asserted t (at .chip))
+turned-none (vcomRule t x) at e = rw (lent-none false t (at .chip))
 turned-none taking at e = absurd (true≢false (sym e))
 turned-none (askBusy t) at e = absurd (true≢false (sym e))
 turned-none askDeadline at e = absurd (true≢false (sym e))

@@ -19,7 +19,7 @@ use Rattle.pixels.specs.Drive.{byNumber, framesFor}
 use Rattle.pixels.proofs.ListLaws.{beside-at}
 use Rattle.pixels.proofs.StateLaws.{numbers-known, states-in-range}
 use Rattle.controller.specs.Refresh.{walked}
-use Rattle.controller.specs.Ask.{Ask, command, datum, reading, advance, reset, taking, askBusy, askDeadline, askBit, askRow}
+use Rattle.controller.specs.Ask.{Ask, command, datum, reading, advance, reset, vcomRule, taking, askBusy, askDeadline, askBit, askRow}
 use Rattle.walk.specs.Machine.{Ended, nothing, whole, cut, framesOn, framesBy, Out, done}
 use Rattle.walk.specs.Machine.{reached, due, settled, cutTask, cutJob, lowered, stepped}
 use Rattle.walk.specs.Kept.{Noted, Task, powersUp, powersDown, fallsAsleep, resetsSoftly}
@@ -128,6 +128,7 @@ module _ (n : ℕ) (g : Uc8253Config) where
   stepped-serves m (advance t) s = settled-serves t m s
   stepped-serves m (reset t true) s = lowered-serves (settled g t m) (settled-job t m s) (settled-serves t m s)
   stepped-serves m (reset t false) s = settled-serves t m s
+  stepped-serves m (vcomRule t x) s = settled-serves t m s
   stepped-serves m taking s = tt
   stepped-serves m (askBusy t) s = tt
   stepped-serves m askDeadline s = tt

@@ -77,6 +77,7 @@ machineOf w = record {
   old = w .lent .old;
   new = w .lent .new;
   job = jobOf (w .chip .operation .work) (w .chip .operation .started) (w .chip .operation .until) (w .chip .waveform) (w .lent .numbers);
+  byFrame = w .chip .mode .«vcom_by_frame»;
 }
 
 pub record View : Type 0 where

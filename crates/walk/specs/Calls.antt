@@ -16,7 +16,7 @@ use Rattle.controller.specs.World.{World, Buffers, world}
 use Rattle.controller.specs.TurnedBack.{makingRefused}
 use Rattle.controller.specs.Calls.{made}
 use Rattle.walk.specs.Machine.{Fed, fresh, ran, framesFed}
-use Rattle.controller.specs.Ask.{Ask, command, datum, reading, advance, reset, taking, askBusy, askDeadline, askBit, askRow}
+use Rattle.controller.specs.Ask.{Ask, command, datum, reading, advance, reset, vcomRule, taking, askBusy, askDeadline, askBit, askRow}
 use Rattle.controller.specs.Ask.{did, refusedBy, writes}
 
 -- a call of the list: its kind and arguments, and the buffers that it is lent
@@ -61,6 +61,7 @@ IsByte (datum t b) = b < 256
 IsByte (reading t) = Unit {0}
 IsByte (advance t) = Unit {0}
 IsByte (reset t asserted) = Unit {0}
+IsByte (vcomRule t x) = Unit {0}
 IsByte taking = Unit {0}
 IsByte (askBusy t) = Unit {0}
 IsByte askDeadline = Unit {0}

@@ -22,7 +22,7 @@ pub data Hearing : Type 0 where
   none ignored : Hearing
   under : Order → Hearing
 
--- what a refresh's start notes: its time, the tables, levels and period, the written area, and each pixel's number
+-- what a refresh's start notes: its time, the tables, levels, period and VCOM's rule, the written area, and each pixel's number
 pub record Noted : Type 0 where
   pub since : ℕ
   pub wave : Waveform
@@ -51,3 +51,5 @@ pub record Machine : Type 0 where
   pub old : List ℕ
   pub new : List ℕ
   pub job : Job
+  -- rule 2 of VCOM is in force
+  pub byFrame : Bool

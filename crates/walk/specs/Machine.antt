@@ -26,10 +26,10 @@ use Rattle.waveform.specs.Levels.{levelsOf}
 use Rattle.waveform.specs.Tables.{waveformOf, durationOf}
 use Rattle.waveform.specs.Frames.{framesOf}
 use Rattle.numbers.specs.Number.{mappingOf, numberOf}
-use Rattle.controller.specs.Ask.{Ask, command, datum, reading, advance, reset, taking, askBusy, askDeadline, askBit, askRow}
+use Rattle.controller.specs.Ask.{Ask, command, datum, reading, advance, reset, vcomRule, taking, askBusy, askDeadline, askBit, askRow}
 use Rattle.walk.specs.Kept.{Order, Hearing, none, ignored, under, Noted}
 use Rattle.walk.specs.Kept.{Task, powersUp, powersDown, fallsAsleep, resetsSoftly, resetsHardly, drives, Job, idle, until, Machine}
-use Rattle.walk.specs.Parts.{withClock, withLow, withSleep, withPower, withRegs, withLuts, withHears, withOld, withNew, withJob}
+use Rattle.walk.specs.Parts.{withClock, withLow, withSleep, withPower, withRegs, withLuts, withHears, withOld, withNew, withJob, withRule}
 
 -- ---- a refresh's end
 -- how a refresh ends at a call: not at all; by itself; cut by reset after some whole frames
@@ -120,9 +120,10 @@ tabulate f from (suc n) = f from ∷ tabulate f (suc from) n
 abbrev pub numberAt : Uc8253Config → Machine → ℕ → ℕ
 numberAt g m p = numberOf (mappingOf (g .panel) (m .regs) (g .variant)) (m .old) (m .new) (p % g .panel .sources) (p / g .panel .sources)
 
--- the tables, the levels of 01, and the period of the low five bits of 30
+-- the tables, the levels of 01, the period of the low five bits of 30, and the rule in force
 abbrev pub waveNow : Uc8253Config → Machine → Waveform
-waveNow g m = waveformOf (m .luts .bytes) (levelsOf (m .regs .power)) (getD (g .timing .«frame_period») (m .regs .pll % 32) 0)
+waveNow g m =
+    waveformOf (m .luts .bytes) (levelsOf (m .regs .power)) (getD (g .timing .«frame_period») (m .regs .pll % 32) 0) (m .byFrame)
 
 -- what a refresh's start notes
 unfoldable pub noted : Uc8253Config → Machine → Noted
@@ -252,7 +253,7 @@ abbrev pub cutJob : Uc8253Config → Job → ℕ → Ended → Ended
 cutJob g idle t e = e
 cutJob g (until n k) t e = cutTask g k t e
 
--- the operation is dropped, the command closed, the registers restored, power cut, the chip awake; the planes stay
+-- the operation is dropped, the command closed, the registers restored, power cut, the chip awake; the planes and VCOM's rule stay
 unfoldable pub cleared : Uc8253Config → Machine → Machine
 cleared g m = record {
   clock = m .clock;
@@ -265,6 +266,7 @@ cleared g m = record {
   old = m .old;
   new = m .new;
   job = idle;
+  byFrame = m .byFrame;
 }
 
 -- asserted; asserted again, only the clock moves
@@ -285,6 +287,7 @@ stepped g m (reading t) = settled g t m
 stepped g m (advance t) = settled g t m
 stepped g m (reset t true) = lowered g (settled g t m)
 stepped g m (reset t false) = then (raised g) (settled g t m)
+stepped g m (vcomRule t x) = then (withRule x) (settled g t m)
 stepped g m taking = quiet m
 stepped g m (askBusy t) = quiet m
 stepped g m askDeadline = quiet m
@@ -295,7 +298,7 @@ stepped g m (askRow y) = quiet m
 unfoldable pub framesAt : Uc8253Config → Machine → Ask → ℕ → List ℤ
 framesAt g m a p = framesBy (g .optics .«positive_drives_black») (stepped g m a .ended) p
 
--- at making: RAM is zero, nothing runs
+-- at making: RAM is zero, nothing runs, and the configuration selects VCOM's rule
 unfoldable pub fresh : Uc8253Config → Machine
 fresh g = record {
   clock = 0;
@@ -308,6 +311,7 @@ fresh g = record {
   old = replicate 60000 0;
   new = replicate 60000 0;
   job = idle;
+  byFrame = g .«vcom_by_frame»;
 }
 
 -- ---- what the walk is fed: each call's kind and arguments, and whether it was turned back

@@ -31,6 +31,7 @@ onePixel v period rate = record {
     rate = rate;
   };
   «ambient_celsius» = 25;
+  «vcom_by_frame» = false;
 }
 
 -- what is lent to its making: the lengths count, and the entries are written anew
@@ -79,7 +80,7 @@ noted3 =
     let three : List ℕ = 0x80 ∷ 0x03 ∷ 0x00 ∷ 0x00 ∷ 0x00 ∷ 0x01 ∷ replicate 36 0 in
     record {
       since = 100;
-      wave = waveformOf (none ∷ none ∷ three ∷ none ∷ none ∷ []) (record { vdh = 14_000; vdl = 14_000; vdhr = 3_000 }) 1_000;
+      wave = waveformOf (none ∷ none ∷ three ∷ none ∷ none ∷ []) (record { vdh = 14_000; vdl = 14_000; vdhr = 3_000 }) 1_000 false;
       area = record { x0 = 0; y0 = 0; x1 = 799; y1 = 599 };
       numbers = 2 ∷ [];
     }

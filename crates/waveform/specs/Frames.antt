@@ -42,6 +42,33 @@ abbrev pub tableFrames : Levels → ℕ → Bool → List Group → List Group �
 tableFrames l period black table vcom =
     inTurn (length (running table)) (λ k. groupFrames l period black (getD (running table) k blank) (vcomCodes vcom k))
 
--- the frames of the table with a number
+-- Rule 2, "VCOM by its own clock". A table's codes, one a frame: each phase's for its frame count,
+abbrev pub phaseCodes : Group → ℕ → List ℕ
+phaseCodes g p = replicate (getD (g .frames) p 0) (getD (g .codes) p 0)
+
+-- four phases in turn,
+abbrev pub roundCodes : Group → List ℕ
+roundCodes g = inTurn 4 (phaseCodes g)
+
+-- that round as often as the group's repeats say,
+abbrev pub groupCodes : Group → List ℕ
+groupCodes g = inTurn (g .repeats) (λ i. roundCodes g)
+
+-- group by group
+abbrev pub codesOf : List Group → List ℕ
+codesOf table = inTurn (length (running table)) (λ k. groupCodes (getD (running table) k blank))
+
+-- frame k of the pixel meets frame k of VCOM's own sequence, level 0 after its end
+abbrev pub beside : Levels → ℕ → Bool → List ℕ → List ℕ → List ℤ
+beside l period black [] vcom = []
+beside l period black (c ∷ codes) [] = driveOf l period black c 0 ∷ beside l period black codes []
+beside l period black (c ∷ codes) (v ∷ vcom) = driveOf l period black c v ∷ beside l period black codes vcom
+
+abbrev pub besideFrames : Levels → ℕ → Bool → List Group → List Group → List ℤ
+besideFrames l period black table vcom = beside l period black (codesOf table) (codesOf vcom)
+
+-- the frames of the table with a number, by the rule of the refresh
 abbrev pub framesOf : Waveform → Bool → ℕ → List ℤ
-framesOf w black lut = tableFrames (w .levels) (w .«frame_ns») black (tableAt w lut) (tableAt w 0)
+framesOf w black lut =
+    pick (w .«vcom_by_frame») (besideFrames (w .levels) (w .«frame_ns») black (tableAt w lut) (tableAt w 0))
+    (tableFrames (w .levels) (w .«frame_ns») black (tableAt w lut) (tableAt w 0))

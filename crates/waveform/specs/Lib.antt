@@ -2,3 +2,4 @@ pub mod Levels
 pub mod Tables
 pub mod Frames
 pub mod InnerProgress
+pub mod InnerPlaces

@@ -47,8 +47,9 @@ frameCount (g ∷ gs) = g .repeats * sumOf (g .frames) + frameCount gs
 abbrev pub tableFrameCount : List Group → ℕ
 tableFrameCount gs = frameCount (running gs)
 
-abbrev pub waveformOf : List (List ℕ) → Levels → ℕ → Waveform
-waveformOf luts l period = record { tables = tablesOf luts; levels = l; «frame_ns» = period }
+-- the tables of a refresh, with its levels, its period and whether VCOM goes by its own clock
+abbrev pub waveformOf : List (List ℕ) → Levels → ℕ → Bool → Waveform
+waveformOf luts l period byFrame = record { tables = tablesOf luts; levels = l; «frame_ns» = period; «vcom_by_frame» = byFrame }
 
 -- the table with a number, 0 VCOM's and 1 to 4 the pixels'; a number that no table has gives an empty one
 abbrev pub tableAt : Waveform → ℕ → List Group

@@ -7,15 +7,17 @@
 ghost use mathlib.Core.Path.{_≡_};
 ghost use mathlib.Core.List.{List};
 ghost use Prim.Native.Nat.{ℕ, _<_, _≤_, _-_, _/_, _*_, min};
-ghost use lib.ListN.{length, take, replicate};
+ghost use lib.ListN.{length, take, drop, replicate};
 ghost use lib.IntN.{ℤ};
 ghost use Rattle.base.specs.Word.{top};
 ghost use Rattle.glass.specs.Transfer.{Acts};
 ghost use Rattle.waveform.specs.Levels.{levelsOf, levelOfCode};
 ghost use Rattle.waveform.specs.Tables.{groupOf, tableOf, tablesOf, waveformOf, sumOf, ends, running};
 ghost use Rattle.waveform.specs.Tables.{tableFrameCount, refreshFrames, durationOf};
-ghost use Rattle.waveform.specs.Frames.{driveOf, vcomCodes, roundFrames, groupFrames, framesOf};
+ghost use Rattle.waveform.specs.Frames.{driveOf, vcomCodes, roundFrames, groupFrames, codesOf, framesOf};
 ghost use Rattle.waveform.specs.InnerProgress.{Parts, Drives, Extends, framesUnder};
+ghost use Rattle.waveform.specs.InnerPlaces.{placeAt, startAt, nextPlace, codesFrom, Placed, Stands};
+ghost use Rattle.waveform.specs.InnerPlaces.{commonRun, besideUnder};
 use base::greatest;
 use base::least;
 use base::saturating_mul;
@@ -31,6 +33,8 @@ const GROUP_BYTES: usize = 6;
 const LUT_BYTES: usize = GROUPS * GROUP_BYTES;
 // Phases of a group.
 const PHASES: usize = 4;
+// The last of them.
+const LAST_PHASE: usize = PHASES - 1;
 
 // The LUTs: 0 drives VCOM (20), 1 to 4 the pixels by their old and new bits (21 to 24).
 pub const LUTS: usize = 5;
@@ -76,6 +80,8 @@ pub struct Waveform {
     pub tables: [[Group; GROUPS]; LUTS],
     pub levels: Levels,
     pub frame_ns: u64,
+    // Rule 2: VCOM goes by its own frame counts, and not by the pixel's phases.
+    pub vcom_by_frame: bool,
 }
 
 impl Group {
@@ -358,6 +364,140 @@ fn drive_table(
     q.run
 }
 
+// A place in a table's sequence of codes, one a frame: in a phase of one of a group's rounds.
+struct Place {
+    group: usize,
+    // Rounds of the group after this one.
+    rounds: u8,
+    phase: usize,
+    // The phase's code, and how many of its frames are to come: 0 and none once the table has ended.
+    code: u8,
+    left: u64,
+}
+
+impl Place {
+    fn at(table: [Group; GROUPS], group: usize, rounds: u8, phase: usize) -> Place
+        requires { ⌜ (group < length (running table)) × (phase < 4) ⌝ }
+        ensures { λ r. ⌜ r ≡ placeAt table group rounds phase ⌝ }
+    {
+        let g = table[group];
+        let codes = g.codes;
+        let frames = g.frames;
+        let code = codes[phase];
+        let left = wide(frames[phase]);
+        Place {
+            group,
+            rounds,
+            phase,
+            code,
+            left,
+        }
+    }
+
+    // The first phase of a group, or the table's end.
+    fn start(table: [Group; GROUPS], runs: usize, group: usize) -> Place
+        requires { ⌜ runs ≡ length (running table) ⌝ }
+        ensures { λ r. ⌜ r ≡ startAt table group ⌝ }
+    {
+        if group < runs {
+            let g = table[group];
+            return Place::at(table, group, g.repeats - 1, 0);
+        }
+        Place {
+            group,
+            rounds: 0,
+            phase: PHASES,
+            code: 0,
+            left: 0,
+        }
+    }
+
+    // The phase after this one.
+    fn next(self, table: [Group; GROUPS], runs: usize) -> Place
+        requires { ⌜ (runs ≡ length (running table)) × (self .group < runs) ⌝ }
+        ensures { λ r. ⌜ r ≡ nextPlace table self ⌝ }
+    {
+        if self.phase < LAST_PHASE {
+            return Place::at(table, self.group, self.rounds, self.phase + 1);
+        }
+        if 0 < self.rounds {
+            return Place::at(table, self.group, self.rounds - 1, 0);
+        }
+        Place::start(table, runs, self.group + 1)
+    }
+
+    // Past phases that have no frame to come.
+    fn settled(self, table: [Group; GROUPS], runs: usize) -> Place
+        requires { ⌜ (runs ≡ length (running table)) × Placed table self ⌝ }
+        ensures { λ r. ⌜ Stands table r (codesFrom table self) ⌝ }
+    {
+        let mut p = self;
+        while p.left == 0 {
+            if runs <= p.group {
+                return p;
+            }
+            p = p.next(table, runs);
+        }
+        p
+    }
+
+    // Before a table's first frame.
+    fn first(table: [Group; GROUPS], runs: usize) -> Place
+        requires { ⌜ runs ≡ length (running table) ⌝ }
+        ensures { λ r. ⌜ Stands table r (codesOf table) ⌝ }
+    {
+        Place::start(table, runs, 0).settled(table, runs)
+    }
+
+    // After n more frames, or what is left of the phase.
+    fn after(self, table: [Group; GROUPS], runs: usize, n: u64) -> Place
+        requires { ⌜ (runs ≡ length (running table)) × Placed table self ⌝ }
+        ensures { λ r. ⌜ Stands table r (drop (min n (self .left)) (codesFrom table self)) ⌝ }
+    {
+        let mut p = self;
+        p.left = saturating_sub(self.left, n);
+        p.settled(table, runs)
+    }
+}
+
+// The frames over which neither the pixel's code changes nor VCOM's, which may have ended.
+fn common_run(pixel: Place, vcom: Place) -> u64
+    ensures { λ r. ⌜ r ≡ commonRun pixel vcom ⌝ }
+{
+    if vcom.left == 0 {
+        return pixel.left;
+    }
+    least(pixel.left, vcom.left)
+}
+
+// The first frames of a table, each beside VCOM's frame of the same number.
+fn drive_beside(
+    table: [Group; GROUPS],
+    vcom: [Group; GROUPS],
+    supply: Supply,
+    swing: u64,
+    n: u64,
+) -> Transfer
+    ensures { λ r. ⌜ Acts swing r (take n (besideUnder supply table vcom)) ⌝ }
+{
+    let runs = running_groups(table);
+    let vcom_runs = running_groups(vcom);
+    let run = Transfer::identity(swing);
+    let mut q = Progress { run, left: n };
+    let mut p = Place::first(table, runs);
+    let mut v = Place::first(vcom, vcom_runs);
+    while 0 < q.left {
+        if p.left == 0 {
+            return q.run;
+        }
+        let k = common_run(p, v);
+        q = drive_phase(q, k, frame_drive(supply, p.code, v.code), swing);
+        p = p.after(table, runs, k);
+        v = v.after(vcom, vcom_runs, k);
+    }
+    q.run
+}
+
 // The whole frames that some nanoseconds hold, rounded down. A period of 0, which no panel has, holds
 // no frame.
 pub fn whole_frames(ns: u64, period: u64) -> u64
@@ -372,13 +512,19 @@ pub fn whole_frames(ns: u64, period: u64) -> u64
 // The proofs of `of` and `tables` are walks by hand, by the laws of the crate `nested`; the rest goes
 // by these two.
 impl Waveform {
-    pub fn of(tables: [[Group; GROUPS]; LUTS], levels: Levels, frame_ns: u64) -> Waveform
-        ensures { λ r. ⌜ r ≡ record { tables = tables; levels = levels; «frame_ns» = «frame_ns» } ⌝ }
+    pub fn of(
+        tables: [[Group; GROUPS]; LUTS],
+        levels: Levels,
+        frame_ns: u64,
+        vcom_by_frame: bool,
+    ) -> Waveform
+        ensures { λ r. ⌜ r ≡ record { tables = tables; levels = levels; «frame_ns» = «frame_ns»; «vcom_by_frame» = «vcom_by_frame» } ⌝ }
     {
         Waveform {
             tables,
             levels,
             frame_ns,
+            vcom_by_frame,
         }
     }
 
@@ -388,11 +534,16 @@ impl Waveform {
         self.tables
     }
 
-    // The LUT registers decoded, for a refresh at these levels and this frame period.
-    pub fn new(luts: [[u8; LUT_BYTES]; LUTS], levels: Levels, frame_ns: u64) -> Waveform
-        ensures { λ r. ⌜ r ≡ waveformOf luts levels «frame_ns» ⌝ }
+    // The LUT registers decoded, for a refresh at these levels and this frame period, by this rule.
+    pub fn new(
+        luts: [[u8; LUT_BYTES]; LUTS],
+        levels: Levels,
+        frame_ns: u64,
+        vcom_by_frame: bool,
+    ) -> Waveform
+        ensures { λ r. ⌜ r ≡ waveformOf luts levels «frame_ns» «vcom_by_frame» ⌝ }
     {
-        Waveform::of(decode(luts), levels, frame_ns)
+        Waveform::of(decode(luts), levels, frame_ns, vcom_by_frame)
     }
 
     // The frames of the refresh: those of the longest of the five LUTs, then two of VCOM_DC.
@@ -435,6 +586,9 @@ impl Waveform {
             frame_ns,
             positive_drives_black,
         };
+        if self.vcom_by_frame {
+            return drive_beside(tables[lut], tables[0], supply, swing, n);
+        }
         drive_table(tables[lut], tables[0], supply, swing, n)
     }
 

@@ -13,7 +13,8 @@ pub const FRAME_PERIODS: usize = 32;
 const ROWS_REVERSED: u8 = 1;
 const COLUMNS_REVERSED: u8 = 2;
 const POSITIVE_DRIVES_BLACK: u8 = 4;
-const LISTED: u8 = ROWS_REVERSED | COLUMNS_REVERSED | POSITIVE_DRIVES_BLACK;
+const VCOM_BY_FRAME: u8 = 8;
+const LISTED: u8 = ROWS_REVERSED | COLUMNS_REVERSED | POSITIVE_DRIVES_BLACK | VCOM_BY_FRAME;
 
 /// Which controller.
 #[derive(Clone, Copy, Debug, PartialEq, Eq, Hash)]
@@ -60,6 +61,9 @@ pub struct Configuration {
     /// The rate of the board's clock in Hz, 1 to 1,000,000,000: times of calls and events, of pictures
     /// and diagnostics are its cycles.
     pub rate: u64,
+    /// VCOM goes by its own clock (rule 2) from making on: frame k of a pixel meets frame k of VCOM's
+    /// own sequence. Otherwise by phase (rule 1).
+    pub vcom_by_frame: bool,
 }
 
 impl Configuration {
@@ -84,6 +88,7 @@ impl Configuration {
             hardware_reset: 1_000_000,
             frame_periods: std::array::from_fn(|code| 1_000_000_000 / hertz(code as u64)),
             rate: GIGAHERTZ,
+            vcom_by_frame: false,
         }
     }
 
@@ -98,6 +103,7 @@ impl Configuration {
         flag(self.rows_reversed, ROWS_REVERSED)
             | flag(self.columns_reversed, COLUMNS_REVERSED)
             | flag(self.positive_drives_black, POSITIVE_DRIVES_BLACK)
+            | flag(self.vcom_by_frame, VCOM_BY_FRAME)
     }
 
     /// As a capture has it; 1 GHz goes without saying.
@@ -156,6 +162,7 @@ impl Configuration {
             hardware_reset: number(48),
             frame_periods: std::array::from_fn(|code| number(56 + 8 * code)),
             rate,
+            vcom_by_frame: flags & VCOM_BY_FRAME != 0,
         })
     }
 }

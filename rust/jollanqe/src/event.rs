@@ -13,6 +13,11 @@ const DATA: u8 = 2;
 const READ: u8 = 3;
 const RESET: u8 = 4;
 const ADVANCE: u8 = 5;
+const VCOM_RULE: u8 = 6;
+
+/// The values of that kind: the rules' numbers.
+const BY_PHASE: u8 = 1;
+const BY_FRAME: u8 = 2;
 
 /// What a read's answer is beside a byte, as [`Panel::run_bytes`](crate::Panel::run_bytes) has it.
 const NOTHING: u16 = 256;
@@ -31,6 +36,8 @@ pub enum What {
     Reset(bool),
     /// Nothing; time passes.
     Advance,
+    /// VCOM goes by frame (true: rule 2) or by phase (rule 1) from the next refresh on.
+    VcomByFrame(bool),
 }
 
 /// Something that happens at a time, in cycles of the configuration's clock: nanoseconds at 1 GHz.
@@ -51,6 +58,7 @@ impl Event {
             (READ, 0) => What::Read,
             (RESET, 0 | 1) => What::Reset(value == 1),
             (ADVANCE, 0) => What::Advance,
+            (VCOM_RULE, BY_PHASE | BY_FRAME) => What::VcomByFrame(value == BY_FRAME),
             _ => return Err(Refused::BAD_EVENT),
         };
         Ok(Event { at, what })
@@ -65,6 +73,8 @@ impl Event {
             What::Read => (READ, 0),
             What::Reset(asserted) => (RESET, u8::from(asserted)),
             What::Advance => (ADVANCE, 0),
+            What::VcomByFrame(false) => (VCOM_RULE, BY_PHASE),
+            What::VcomByFrame(true) => (VCOM_RULE, BY_FRAME),
         };
         let [a, b, c, d, e, f, g, h] = self.at.to_le_bytes();
         [a, b, c, d, e, f, g, h, kind, value]

@@ -111,7 +111,7 @@ fn answered(asked: Asked) -> Result<Option<u64>, Refused> {
 }
 
 impl Panel {
-    /// A panel at power-on; refused by 1, 2, 3 or 4.
+    /// A panel at power-on; refused by 1, 2, 3, 4 or 13.
     pub fn new(configuration: &Configuration) -> Result<Panel, Refused> {
         let file = write_capture(configuration, &[]);
         let pixels = configuration.pixels().min(MOST_PIXELS);
@@ -207,6 +207,13 @@ impl Panel {
         self.keep(given).map(drop)
     }
 
+    /// Time passes, and VCOM goes by frame (true: rule 2) or by phase (rule 1) from the next refresh
+    /// on. One that runs ends by the rule that it was started by; no command is closed.
+    pub fn vcom_rule(&mut self, at: u64, by_frame: bool) -> Result<(), Refused> {
+        let given = lend!(self.0, jollanqe_vcom_rule(self.0.record, at, by_frame));
+        self.keep(given).map(drop)
+    }
+
     /// An event by its own call.
     pub fn event(&mut self, event: Event) -> Result<Answer, Refused> {
         let at = event.at;
@@ -218,6 +225,7 @@ impl Panel {
             }
             What::Reset(asserted) => self.reset(at, asserted)?,
             What::Advance => self.advance(at)?,
+            What::VcomByFrame(by_frame) => self.vcom_rule(at, by_frame)?,
         }
         Ok(Answer::NoRead)
     }

@@ -151,6 +151,8 @@ pub struct Waveform {
     pub levels: Levels,
     /// The frame period in nanoseconds.
     pub frame_ns: u64,
+    /// The rule that the refresh was started by: 2, else 1.
+    pub vcom_by_frame: bool,
 }
 
 /// How many rows of diagnostics there are.
@@ -266,6 +268,10 @@ pub struct Record {
     pub data_flag: bool,
     /// What becomes of a data byte: 0 no command yet, 1 ignored, 2 it belongs to `active`.
     pub current: u8,
+    /// Of the configuration: rule 2 at making.
+    pub made_by_frame: bool,
+    /// The rule in force, which the next refresh starts by: 2, else 1.
+    pub vcom_by_frame: bool,
 }
 
 /// What a call gives back.
@@ -299,12 +305,12 @@ const _: () = assert!(size_of::<Timing>() == 304 && offset_of!(Timing, rate) == 
 const _: () = assert!(size_of::<Registers>() == 28 && offset_of!(Registers, partial) == 26);
 const _: () = assert!(size_of::<Luts>() == 210 && size_of::<Group>() == 9);
 const _: () = assert!(size_of::<Levels>() == 6 && size_of::<Log>() == 16);
-const _: () = assert!(size_of::<Waveform>() == 336 && offset_of!(Waveform, frame_ns) == 328);
+const _: () = assert!(size_of::<Waveform>() == 344 && offset_of!(Waveform, vcom_by_frame) == 336);
 const _: () = assert!(size_of::<Active>() == 18 && offset_of!(Active, past_reported) == 16);
 const _: () = assert!(size_of::<Operation>() == 32 && offset_of!(Operation, work) == 24);
 const _: () = assert!(size_of::<Image>() == 32 && offset_of!(Image, interrupted) == 29);
-const _: () = assert!(size_of::<Record>() == 1024 && offset_of!(Record, current) == 1021);
-const _: () = assert!(size_of::<Given>() == 1032 && offset_of!(Given, answer) == 1026);
+const _: () = assert!(size_of::<Record>() == 1032 && offset_of!(Record, vcom_by_frame) == 1031);
+const _: () = assert!(size_of::<Given>() == 1040 && offset_of!(Given, answer) == 1034);
 const _: () = assert!(size_of::<Asked>() == 16 && offset_of!(Asked, known) == 9);
 
 // SAFETY, of each: a pointer and the length after it are those of one slice; a slice behind a `*mut`
@@ -407,6 +413,25 @@ unsafe extern "C" {
     pub fn jollanqe_advance(
         chip: Record,
         at: u64,
+        old: *mut u8,
+        old_length: usize,
+        new: *mut u8,
+        new_length: usize,
+        states: *mut i64,
+        states_length: usize,
+        numbers: *mut u8,
+        numbers_length: usize,
+        picture: *mut u8,
+        picture_length: usize,
+        rows: *mut u64,
+        rows_length: usize,
+    ) -> Given;
+
+    /// Time passes, and VCOM goes by frame (rule 2) or by phase from the next refresh on.
+    pub fn jollanqe_vcom_rule(
+        chip: Record,
+        at: u64,
+        by_frame: bool,
         old: *mut u8,
         old_length: usize,
         new: *mut u8,

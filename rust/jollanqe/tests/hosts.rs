@@ -45,13 +45,14 @@ fn numbers<T>(result: Result<T, Refused>) -> (u8, &'static str) {
 /// Every call, each on a panel of its own.
 type Call = fn(&mut Panel) -> Result<(), Refused>;
 const LATE: u64 = 5_000;
-const CALLS: [Call; 7] = [
+const CALLS: [Call; 8] = [
     |panel| panel.command(LATE, 0x12),
     |panel| panel.data(LATE, 7),
     |panel| panel.read(LATE).map(drop),
     |panel| panel.reset(LATE, true),
     |panel| panel.reset(LATE, false),
     |panel| panel.advance(LATE),
+    |panel| panel.vcom_rule(LATE, true),
     |panel| panel.send(LATE, 0x10, &[1, 2, 3]),
 ];
 
@@ -194,7 +195,7 @@ fn ragged_bytes_are_no_events() {
 fn a_kind_that_is_not_listed_does_nothing() {
     let mut panel = refreshing();
     let before = panel.clone();
-    for kind in (0..=0).chain(6..=255) {
+    for kind in (0..=0).chain(7..=255) {
         let bytes = [0xFF, 0, 0, 0, 0, 0, 0, 0xFF, kind, 1];
         let mut answers = [0];
         assert_eq!(panel.run_bytes(&bytes, &mut answers), Ok(()));
@@ -205,6 +206,8 @@ fn a_kind_that_is_not_listed_does_nothing() {
     assert_eq!(numbers(Event::listed(0, 3, 1)), (9, "bad event"));
     assert_eq!(numbers(Event::listed(0, 4, 2)), (9, "bad event"));
     assert_eq!(numbers(Event::listed(0, 5, 1)), (9, "bad event"));
+    assert_eq!(numbers(Event::listed(0, 6, 0)), (9, "bad event"));
+    assert_eq!(numbers(Event::listed(0, 6, 3)), (9, "bad event"));
 }
 
 #[test]
@@ -221,6 +224,9 @@ fn a_run_is_its_calls() {
         What::Reset(true),
         What::Reset(false),
         What::Advance,
+        What::VcomByFrame(true),
+        What::VcomByFrame(false),
+        What::VcomByFrame(true),
     ];
     let events: Vec<Event> = (0..)
         .zip(whats)
@@ -238,9 +244,59 @@ fn a_run_is_its_calls() {
     assert_eq!(one, other);
 }
 
+/// The grey of five frames beside VCOM's 0 2 0 2 0 2, each an eighth of a swing where VCOM has 0.
+fn drawn(vcom_by_frame: bool, before: Option<bool>, under_way: Option<bool>) -> u8 {
+    let mut panel = Panel::new(&Configuration {
+        full_swing: 4 * SWING,
+        vcom_by_frame,
+        ..small()
+    })
+    .expect("made");
+    panel.send(0, 0x00, &[0x3F]).expect("taken");
+    panel.send(0, 0x04, &[]).expect("taken");
+    for (table, bytes) in [(0x20, [0x20, 1, 1, 0, 0, 3]), (0x24, [0x80, 5, 0, 0, 0, 1])] {
+        panel.send(100, table, &bytes).expect("taken");
+    }
+    let change = |at, rule: Option<bool>, panel: &mut Panel| {
+        if let Some(by_frame) = rule {
+            panel.vcom_rule(at, by_frame).expect("taken");
+            assert_eq!(panel.record().vcom_by_frame, by_frame);
+        }
+    };
+    change(100, before, &mut panel);
+    panel.send(100, 0x12, &[]).expect("taken");
+    change(3_000, under_way, &mut panel);
+    panel.advance(8_100).expect("taken");
+    assert_eq!(panel.record().made_by_frame, vcom_by_frame);
+    panel.picture()[0]
+}
+
+#[test]
+fn vcom_goes_by_frame_or_by_phase() {
+    assert_eq!(
+        [drawn(false, None, None), drawn(true, None, None)],
+        [159, 96]
+    );
+    assert_eq!(
+        [
+            drawn(false, Some(true), None),
+            drawn(true, Some(false), None)
+        ],
+        [96, 159]
+    );
+    assert_eq!(
+        [
+            drawn(false, None, Some(true)),
+            drawn(true, None, Some(false))
+        ],
+        [159, 96]
+    );
+}
+
 #[test]
 fn a_capture_is_written_and_read() {
-    let events = [What::Read, What::Reset(true), What::Data(9)].map(|what| Event { at: 7, what });
+    let whats = [What::Read, What::Reset(true), What::VcomByFrame(true)];
+    let events = whats.map(|what| Event { at: 7, what });
     let file = write_capture(&small(), &events);
     assert_eq!(read_capture(&file), Ok((small(), events.to_vec())));
     let broken = (8, "broken capture");
@@ -256,8 +312,10 @@ fn a_capture_is_written_and_read() {
     assert_eq!(changed(file.len() - 4, 4), broken);
     let bad = (9, "bad event");
     assert_eq!(changed(30, 2), bad); // the variant
-    assert_eq!(changed(31, 8), bad); // a flag
-    assert_eq!(changed(8, 6), bad); // a kind
+    assert_eq!(changed(31, 16), bad); // a flag
+    assert_eq!(changed(31, 15), (0, ""));
+    assert_eq!(changed(8, 7), bad); // a kind
+    assert_eq!(changed(29, 3), bad); // a rule
     assert_eq!(changed(9, 1), bad); // a value
 }
 

@@ -1,4 +1,4 @@
--- `making::making_refused` meets its contract: 1 to 4, then 5.
+-- `making::making_refused` meets its contract: 1 to 4, 13, then 5.
 use Rattle.controller.specs.TurnedBack.{makingRefused}
 use Rattle.base.proofs.RefusalWords.{told}
 use mathlib.Core.Path.{refl, sym, _∙_}

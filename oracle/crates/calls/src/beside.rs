@@ -1,15 +1,17 @@
 //! The library beside the published Rust: the same events, and after each the same answers.
 
-use chips::uc8253::{PanelImage, RefreshKind, Uc8253};
+use chips::uc8253::{PanelImage, RefreshKind};
 use emu_core::{Cycles, Level};
 use jollanqe::raw::Image;
 use jollanqe::{Answer, Panel, Refused};
 use oracle::capture::{Capture, Configuration, Event};
+use oracle::chip::Chip;
 use oracle::clock::Clock;
 use oracle::log::Log;
 use oracle::refusal::Refusal;
 use oracle::rows::{self, KIND_WORDS};
 use oracle::run;
+use oracle::vcom::Rule;
 
 use crate::difference::{Difference, same};
 use crate::memory::{self, Seen};
@@ -32,10 +34,10 @@ pub struct Beside {
     /// The board's clock.
     pub board: Clock,
     pub ours: Panel,
-    pub rust: Uc8253,
+    pub rust: Chip,
     /// The same chip, but its rows are taken after every event: they are what the event reported,
     /// which `rust` hands out only where its own rows are taken.
-    emptied: Uc8253,
+    emptied: Chip,
     /// The rows that must be stored, and how many of them have been compared.
     pub log: Log,
     compared: usize,
@@ -80,11 +82,11 @@ fn kind_number(kind: RefreshKind) -> u8 {
     }
 }
 
-pub fn is_low(chip: &Uc8253, at: u64) -> bool {
+pub fn is_low(chip: &Chip, at: u64) -> bool {
     chip.busy_pin(Cycles(at)) == Level::Low
 }
 
-pub fn deadline(chip: &Uc8253) -> Option<u64> {
+pub fn deadline(chip: &Chip) -> Option<u64> {
     chip.next_deadline().map(|end| end.get())
 }
 
@@ -130,7 +132,9 @@ impl Beside {
             board: configuration.clock().expect("it is made"),
             ours,
             rust,
-            emptied: run::make_any(configuration).expect("made once already"),
+            emptied: run::make_any(configuration)
+                .expect("made once already")
+                .without_pictures(),
             log: Log::default(),
             compared: 0,
             reported: [0; KIND_WORDS.len()],
@@ -218,6 +222,9 @@ impl Beside {
             our_facts(self.ours.image()),
             rust_facts(image),
         )?;
+        let by_frame = self.rust.rule() == Rule::ByFrame;
+        let rule = self.ours.record().vcom_by_frame;
+        same("VCOM by frame", rule, by_frame)?;
         self.turn += 1;
         let place = self.before.cursor;
         self.seen.compare_changed(&self.ours, &self.rust)?;

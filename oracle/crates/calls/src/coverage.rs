@@ -25,7 +25,7 @@ const STARTS: &str = "refreshes begun by single calls";
 const RESETS: &str = "resets during or at the end of a refresh, by single calls";
 const ROWS: &str = "rows by kind";
 
-const EVENTS: &[&str] = &["command", "data", "read", "reset", "advance"];
+const EVENTS: &[&str] = &["command", "data", "read", "reset", "advance", "rule"];
 
 const SECTIONS: [Section; 9] = [
     (TRACES, &traces::NAMES),
@@ -51,6 +51,7 @@ const SECTIONS: [Section; 9] = [
             "rows reversed",
             "columns reversed",
             "positive drives black",
+            "VCOM by rule 2",
             "swing below 2^16",
             "swing from 2^16, below 2^54",
             "swing from 2^54",
@@ -74,6 +75,10 @@ const SECTIONS: [Section; 9] = [
             "partial, cut",
             "inside a run of several",
             "end held at 2^64 - 1",
+            "rule 1, by the Rust",
+            "rule 2, tables of one timing, by the Rust",
+            "rule 2, walked",
+            "either rule, walked after one of these",
         ],
     ),
     (
@@ -192,6 +197,7 @@ impl Coverage {
             (capture::ROWS_REVERSED, "rows reversed"),
             (capture::COLUMNS_REVERSED, "columns reversed"),
             (capture::POSITIVE_DRIVES_BLACK, "positive drives black"),
+            (capture::VCOM_BY_FRAME, "VCOM by rule 2"),
         ] {
             self.add_if(of.flag(flag), SETTINGS, word);
         }
@@ -327,5 +333,14 @@ impl Watch for Coverage {
             self.add(ROWS, word, count);
         }
         self.dropped += beside.rust.dropped_diagnostics();
+        let judges = beside.rust.judges();
+        for (word, count) in [
+            ("rule 1, by the Rust", judges.first),
+            ("rule 2, tables of one timing, by the Rust", judges.alike),
+            ("rule 2, walked", judges.second),
+            ("either rule, walked after one of these", judges.after),
+        ] {
+            self.add(REFRESHES, word, count);
+        }
     }
 }

@@ -1,8 +1,9 @@
 //! The two planes of both sides: after an event what changed and what lies around the cursor, and
 //! every bit now and then.
 
-use chips::uc8253::{self, RAM_GATES, RAM_SOURCES, Uc8253};
+use chips::uc8253::{self, RAM_GATES, RAM_SOURCES};
 use jollanqe::{PLANE_BYTES, Panel, Plane};
+use oracle::chip::Chip;
 
 use crate::difference::{Difference, same};
 
@@ -26,20 +27,20 @@ fn theirs(plane: Plane) -> uc8253::Plane {
 }
 
 /// Columns 8 `byte` to 8 `byte` + 7 of a row of the Rust's plane, highest bit first.
-fn packed(chip: &Uc8253, plane: uc8253::Plane, byte: u16, row: u16) -> u8 {
+fn packed(chip: &Chip, plane: uc8253::Plane, byte: u16, row: u16) -> u8 {
     (0..8).fold(0, |bits, bit| {
         bits << 1 | u8::from(chip.ram_bit(plane, 8 * byte + bit, row) == Some(true))
     })
 }
 
 /// The bytes of the Rust's plane, rows from the top.
-pub fn plane_bytes(chip: &Uc8253, plane: Plane) -> Vec<u8> {
+pub fn plane_bytes(chip: &Chip, plane: Plane) -> Vec<u8> {
     let rows = (0..RAM_GATES).flat_map(|row| (0..ROW_BYTES as u16).map(move |byte| (byte, row)));
     rows.map(|(byte, row)| packed(chip, theirs(plane), byte, row))
         .collect()
 }
 
-fn compare_byte(ours: &Panel, rust: &Uc8253, plane: Plane, at: usize) -> Result<(), Difference> {
+fn compare_byte(ours: &Panel, rust: &Chip, plane: Plane, at: usize) -> Result<(), Difference> {
     let (byte, row) = ((at % ROW_BYTES) as u16, (at / ROW_BYTES) as u16);
     let place = |bits: u8| (plane, 8 * byte, row, bits);
     same(
@@ -50,7 +51,7 @@ fn compare_byte(ours: &Panel, rust: &Uc8253, plane: Plane, at: usize) -> Result<
 }
 
 /// Every bit of both planes.
-pub fn compare_all(ours: &Panel, rust: &Uc8253) -> Result<(), Difference> {
+pub fn compare_all(ours: &Panel, rust: &Chip) -> Result<(), Difference> {
     for plane in PLANES {
         for at in 0..PLANE_BYTES {
             compare_byte(ours, rust, plane, at)?;
@@ -60,7 +61,7 @@ pub fn compare_all(ours: &Panel, rust: &Uc8253) -> Result<(), Difference> {
 }
 
 /// The bytes around a place, its neighbours in the row and the rows beside it.
-pub fn compare_around(ours: &Panel, rust: &Uc8253, place: (u16, u16)) -> Result<(), Difference> {
+pub fn compare_around(ours: &Panel, rust: &Chip, place: (u16, u16)) -> Result<(), Difference> {
     let (column, row) = (usize::from(place.0 / 8), usize::from(place.1));
     for plane in PLANES {
         for row in row.saturating_sub(1)..=row + 1 {
@@ -78,7 +79,7 @@ pub fn compare_around(ours: &Panel, rust: &Uc8253, place: (u16, u16)) -> Result<
 /// The question for a bit: at a place, and at or past one of the RAM's ends.
 pub fn compare_questions(
     ours: &Panel,
-    rust: &Uc8253,
+    rust: &Chip,
     place: (u16, u16),
     turn: usize,
 ) -> Result<(), Difference> {
@@ -104,7 +105,7 @@ impl Seen {
     }
 
     /// Each byte of ours that changed is the Rust's; they are seen from now on.
-    pub fn compare_changed(&mut self, ours: &Panel, rust: &Uc8253) -> Result<(), Difference> {
+    pub fn compare_changed(&mut self, ours: &Panel, rust: &Chip) -> Result<(), Difference> {
         for (plane, seen) in PLANES.into_iter().zip(&mut self.planes) {
             let bytes = ours.plane(plane);
             if bytes == seen {

@@ -5,10 +5,10 @@ use std::fs;
 use std::io;
 use std::path::Path;
 
-use chips::uc8253::Uc8253;
 use jollanqe::Plane;
 use oracle::capture::{Capture, Event, MOST_EVENTS};
 use oracle::cases;
+use oracle::chip::Chip;
 use oracle::log::Log;
 use oracle::run;
 
@@ -34,8 +34,8 @@ pub fn digest(planes: [&[u8]; 2]) -> u32 {
 
 /// A chip that keeps its rows, and the same chip whose rows are taken after every event.
 struct Counted {
-    chip: Uc8253,
-    emptied: Uc8253,
+    chip: Chip,
+    emptied: Chip,
     log: Log,
 }
 
@@ -82,7 +82,7 @@ fn trace(capture: &Capture) -> Vec<u8> {
     };
     let mut chips = Counted {
         chip: accepted(),
-        emptied: accepted(),
+        emptied: accepted().without_pictures(),
         log: Log::default(),
     };
     let mut bytes = (file.len() as u32).to_le_bytes().to_vec();

@@ -1,7 +1,8 @@
 //! What `jollanqe vcd` has to write for a configuration and a dump.
 
-use chips::uc8253::{PanelImage, Uc8253};
+use chips::uc8253::PanelImage;
 use oracle::capture::{CONFIGURATION_BYTES, Configuration, Event};
+use oracle::chip::Chip;
 use oracle::refusal::Refusal;
 use oracle::{picture, png, run};
 
@@ -32,7 +33,7 @@ impl Form {
 }
 
 /// The chip of a configuration that is no wrong length, or the refusals after 12.
-pub fn make(configuration: &[u8]) -> Result<Uc8253, u8> {
+pub fn make(configuration: &[u8]) -> Result<Chip, u8> {
     let configuration = Configuration::decode(configuration);
     if !configuration.is_listed() {
         return Err(Refusal::BadEvent.number());
@@ -42,7 +43,7 @@ pub fn make(configuration: &[u8]) -> Result<Uc8253, u8> {
 
 /// The chip and the events to come, or the first refusal: 8, 11, 12, 9, 1 to 4. A dump's
 /// configuration has no rate.
-pub fn accept(configuration: &[u8], dump: &[u8]) -> Result<(Uc8253, Vec<Event>), u8> {
+pub fn accept(configuration: &[u8], dump: &[u8]) -> Result<(Chip, Vec<Event>), u8> {
     if configuration.len() != CONFIGURATION_BYTES {
         return Err(Refusal::BrokenCapture.number());
     }
@@ -55,7 +56,7 @@ fn png(image: &PanelImage) -> Vec<u8> {
 }
 
 /// What is written for a panel that meets these events.
-pub fn played(chip: Uc8253, events: &[Event], form: Form) -> Vec<u8> {
+pub fn played(chip: Chip, events: &[Event], form: Form) -> Vec<u8> {
     let outcome = run::events(chip, events, |_, _, _| ());
     match form {
         Form::Lines => run::report(&outcome).into_bytes(),

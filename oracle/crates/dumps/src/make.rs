@@ -25,7 +25,7 @@ pub struct Made {
 
 /// The configuration bytes and the events of a capture of some seed, also of a damaged one.
 fn capture(rng: &mut Rng) -> (Vec<u8>, Vec<Event>) {
-    let mut file = generate::plain(rng.any());
+    let mut file = generate::ruled(rng.any());
     if file.len() < TAIL_BYTES {
         file = cases::example().file();
     }

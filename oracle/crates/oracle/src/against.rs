@@ -7,7 +7,10 @@ use std::path::Path;
 use std::process::{Command, Stdio};
 use std::time::{Duration, Instant};
 
-use crate::capture::{EVENT_BYTES, MOST_BYTES, RATE_BYTES, RATED_TAIL_BYTES, TRAILER_BYTES};
+use crate::capture::{
+    EVENT_BYTES, MOST_BYTES, RATE_BYTES, RATED_TAIL_BYTES, TAIL_BYTES, TRAILER_BYTES, VCOM_RULE,
+};
+use crate::chip::Judges;
 use crate::clock::GIGAHERTZ;
 use crate::generate;
 use crate::rng::Rng;
@@ -16,15 +19,15 @@ use crate::run;
 /// How many captures go by between two lines of progress.
 const PROGRESS: u64 = 10_000;
 
-/// What `panel` writes for a capture; an error where it does not end as it should.
-fn panel(program: &Path, capture: &[u8]) -> io::Result<Vec<u8>> {
+/// What a program writes for its input; an error where it does not end as it should.
+pub fn output(program: &Path, bytes: &[u8]) -> io::Result<Vec<u8>> {
     let mut child = Command::new(program)
         .stdin(Stdio::piped())
         .stdout(Stdio::piped())
         .stderr(Stdio::piped())
         .spawn()?;
     if let Some(mut input) = child.stdin.take() {
-        match input.write_all(capture) {
+        match input.write_all(bytes) {
             // A capture that is too large is not read to its end.
             Err(error) if error.kind() == ErrorKind::BrokenPipe => {}
             result => result?,
@@ -35,9 +38,20 @@ fn panel(program: &Path, capture: &[u8]) -> io::Result<Vec<u8>> {
         return Ok(output.stdout);
     }
     Err(io::Error::other(format!(
-        "panel ended with {}",
+        "{} ended with {}",
+        program.display(),
         output.status
     )))
+}
+
+/// Keeps files by name in `difference/`.
+pub fn keep(files: &[(&str, &[u8])]) -> io::Result<()> {
+    let kept = Path::new("difference");
+    fs::create_dir_all(kept)?;
+    for (name, bytes) in files {
+        fs::write(kept.join(name), bytes)?;
+    }
+    Ok(())
 }
 
 /// Holds `panel` to the Rust, and tells how many captures were equal.
@@ -47,6 +61,7 @@ pub struct Comparison<'a> {
     refused: u64,
     /// Captures of which a row of the Rust's is left out.
     left_out: u64,
+    judges: Judges,
 }
 
 impl Comparison<'_> {
@@ -56,6 +71,7 @@ impl Comparison<'_> {
             equal: 0,
             refused: 0,
             left_out: 0,
+            judges: Judges::default(),
         }
     }
 
@@ -63,19 +79,17 @@ impl Comparison<'_> {
     fn holds(&mut self, name: &str, capture: &[u8]) -> io::Result<bool> {
         let judged = run::judge(capture);
         let rust = judged.text.into_bytes();
-        let ours = panel(self.program, capture);
+        let ours = output(self.program, capture);
         if ours.as_ref().is_ok_and(|ours| *ours == rust) {
             self.equal += 1;
             self.refused += u64::from(judged.is_refused);
             self.left_out += u64::from(judged.left_out > 0);
+            self.judges.add(judged.judges);
             return Ok(true);
         }
-        let kept = Path::new("difference");
-        fs::create_dir_all(kept)?;
-        fs::write(kept.join("capture"), capture)?;
-        fs::write(kept.join("rust"), &rust)?;
+        keep(&[("capture", capture), ("rust", &rust)])?;
         match ours {
-            Ok(ours) => fs::write(kept.join("panel"), ours)?,
+            Ok(ours) => keep(&[("panel", &ours)])?,
             Err(error) => println!("{error}"),
         }
         println!("{name} differs: see difference/");
@@ -92,6 +106,16 @@ impl Comparison<'_> {
         println!(
             "{} equal ({} of them refused, {} with a row left out), {different} different",
             self.equal, self.refused, self.left_out
+        );
+        let Judges {
+            first,
+            alike,
+            second,
+            after,
+        } = self.judges;
+        println!(
+            "refreshes: {first} of rule 1 and {alike} of rule 2 by the Rust; \
+             {second} of rule 2 walked, and {after} of either after one of these"
         );
     }
 
@@ -153,7 +177,7 @@ fn blow(rng: &mut Rng, file: &mut Vec<u8>) {
         file.push(rng.byte());
         return;
     }
-    match rng.below(9) {
+    match rng.below(11) {
         // a bit, anywhere
         0 => {
             let at = rng.below(file.len() as u64) as usize;
@@ -206,6 +230,21 @@ fn blow(rng: &mut Rng, file: &mut Vec<u8>) {
                 file.splice(trailer..trailer, rate.to_le_bytes());
             } else {
                 file.drain(trailer.saturating_sub(RATE_BYTES)..trailer);
+            }
+        }
+        // the rule at making
+        8 => {
+            if let Some(flags) = file.len().checked_sub(TAIL_BYTES).map(|from| from + 1) {
+                file[flags] ^= rng.pick(&[8, 8, 8, 16]);
+            }
+        }
+        // an event of kind 6 in the place of another
+        9 => {
+            let events = (file.len() / EVENT_BYTES) as u64;
+            if events > 0 {
+                let at = rng.below(events) as usize * EVENT_BYTES;
+                file[at + 8] = VCOM_RULE;
+                file[at + 9] = rng.pick(&[0, 1, 1, 2, 2, 2, 3]);
             }
         }
         // a kind or a value of an event

@@ -1,10 +1,12 @@
-//! The capture file of document 01, with the rate of 2026-05: its layout, and refusals 8 and 9.
+//! The capture file of document 01, with the rate of 2026-05 and VCOM's rule of 2026-08: its layout,
+//! and refusals 8 and 9.
 
 use chips::glass::{Optics, Provenance};
 use chips::uc8253::{FRAME_RATE_CODES, Uc8253Config, Uc8253Geometry, Uc8253Timing, Variant};
 
 use crate::clock::{Clock, GIGAHERTZ};
 use crate::refusal::Refusal;
+use crate::vcom::Rule;
 
 pub const EVENT_BYTES: usize = 10;
 pub const CONFIGURATION_BYTES: usize = 312;
@@ -25,11 +27,16 @@ pub const DATA: u8 = 2;
 pub const READ: u8 = 3;
 pub const RESET: u8 = 4;
 pub const ADVANCE: u8 = 5;
+/// Its value is the rule's number.
+pub const VCOM_RULE: u8 = 6;
 
 pub const ROWS_REVERSED: u8 = 1 << 0;
 pub const COLUMNS_REVERSED: u8 = 1 << 1;
 pub const POSITIVE_DRIVES_BLACK: u8 = 1 << 2;
-const LISTED_FLAGS: u8 = ROWS_REVERSED | COLUMNS_REVERSED | POSITIVE_DRIVES_BLACK;
+/// Rule 2 from making on.
+pub const VCOM_BY_FRAME: u8 = 1 << 3;
+pub const LISTED_FLAGS: u8 =
+    ROWS_REVERSED | COLUMNS_REVERSED | POSITIVE_DRIVES_BLACK | VCOM_BY_FRAME;
 
 const VARIANTS: [Variant; 2] = [Variant::Uc8253, Variant::Uc8279d];
 
@@ -67,12 +74,13 @@ impl Event {
         file.extend([self.kind, self.value]);
     }
 
-    /// Whether document 01 lists the kind, and the value for it.
+    /// Whether the papers list the kind, and the value for it.
     pub fn is_listed(self) -> bool {
         match self.kind {
             COMMAND | DATA => true,
             RESET => self.value <= 1,
             READ | ADVANCE => self.value == 0,
+            VCOM_RULE => [1, 2].contains(&self.value),
             _ => false,
         }
     }
@@ -175,6 +183,11 @@ impl Configuration {
 
     pub fn flag(&self, bit: u8) -> bool {
         self.flags & bit != 0
+    }
+
+    /// VCOM's rule at making.
+    pub fn rule(&self) -> Rule {
+        Rule::of(self.flag(VCOM_BY_FRAME))
     }
 
     pub fn is_listed(&self) -> bool {

@@ -13,7 +13,7 @@ fn first<T: PartialEq>(a: &[T], b: &[T]) -> Option<usize> {
 }
 
 fn event(event: &Event) -> String {
-    let kinds = ["command", "data", "read", "reset", "advance"];
+    let kinds = ["command", "data", "read", "reset", "advance", "rule"];
     let kind = kinds[usize::from(event.kind) - 1];
     format!("{kind} {} at {}", event.value, event.time)
 }

@@ -166,6 +166,16 @@ const PAIRS: [[&str; 2]; 13] = [
     ["rate-cut-3", "rate-cut-7"],
 ];
 
+/// Of 2026-08, behind the others: all words of these, and each compared with the next.
+const RULED: [&str; 6] = [
+    "rule-2-repeats",
+    "rule-1-repeats",
+    "rule-2-floating-cut",
+    "rule-changed-to-2-under-way",
+    "rule-changed-to-1-under-way",
+    "refused-9-rule-3",
+];
+
 /// A batch as it grows: its captures, its lines, what it has to write.
 struct Batch {
     files: Vec<(&'static str, Vec<u8>)>,
@@ -183,9 +193,28 @@ impl Batch {
         self.jobs += &format!("{job}\n");
         self.output.extend(output.as_ref());
     }
+
+    fn add_ruled(&mut self) {
+        for name in RULED {
+            let file = self.file(name).to_vec();
+            self.add(&format!("lines {name}.capture"), lines(&file));
+            self.add(&format!("pgm {name}.capture"), picture::pgm(&file));
+            self.add(&format!("png {name}.capture"), picture::png(&file));
+            self.add(&format!("cuts {name}.capture"), cuts::cuts(&file));
+            let heads = picture::heads(&file);
+            self.add(&format!("pictures {name}.capture {name}"), heads);
+        }
+        for pair in RULED.windows(2) {
+            let names = [pair[0], pair[1]].map(|name| format!("{name}.capture"));
+            let [a, b] = [&names[0], &names[1]];
+            let files = [self.file(pair[0]), self.file(pair[1])];
+            let output = differ::differ([a, b], files);
+            self.add(&format!("compare {a} {b}"), output);
+        }
+    }
 }
 
-fn captures() -> Vec<(&'static str, Vec<u8>)> {
+fn captures(ruled: bool) -> Vec<(&'static str, Vec<u8>)> {
     let mut files = vec![("large", large()), ("cut-twice", cut_twice())];
     files.extend(variations());
     let others = [
@@ -197,16 +226,17 @@ fn captures() -> Vec<(&'static str, Vec<u8>)> {
         "rate-cut-7",
     ];
     let all = cases::all();
-    for name in CASES.into_iter().chain(others) {
+    let ruled = RULED.iter().filter(|_| ruled);
+    for name in CASES.into_iter().chain(others).chain(ruled.copied()) {
         let case = all.iter().find(|case| case.name == name);
         files.push((name, case.expect("a case of that name").file.clone()));
     }
     files
 }
 
-fn batch() -> Batch {
+fn batch(ruled: bool) -> Batch {
     let mut batch = Batch {
-        files: captures(),
+        files: captures(ruled),
         jobs: String::new(),
         output: Vec::new(),
     };
@@ -241,14 +271,18 @@ fn batch() -> Batch {
     ] {
         batch.add(job, "");
     }
+    if ruled {
+        batch.add_ruled();
+    }
     batch
 }
 
-/// Writes the batch, its captures and what it has to write.
-pub fn write(directory: &Path) -> io::Result<()> {
+/// Writes the batch, its captures and what it has to write; with the jobs of 2026-08 if they are
+/// asked for.
+pub fn write(directory: &Path, ruled: bool) -> io::Result<()> {
     let data = directory.join("data");
     fs::create_dir_all(&data)?;
-    let batch = batch();
+    let batch = batch(ruled);
     for (name, file) in &batch.files {
         fs::write(data.join(format!("{name}.capture")), file)?;
     }

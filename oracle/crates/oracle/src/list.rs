@@ -18,6 +18,7 @@ pub fn event_words(event: Event) -> String {
         capture::READ => "read".to_string(),
         capture::RESET if value == 0 => "reset released".to_string(),
         capture::RESET => "reset asserted".to_string(),
+        capture::VCOM_RULE => format!("VCOM by rule {value}"),
         _ => "advance".to_string(),
     }
 }
@@ -35,7 +36,8 @@ fn flag_words(flags: u8) -> String {
         (capture::ROWS_REVERSED, "rows reversed"),
         (capture::COLUMNS_REVERSED, "columns reversed"),
         (capture::POSITIVE_DRIVES_BLACK, "positive drives black"),
-        (0xF8, "bits not listed"),
+        (capture::VCOM_BY_FRAME, "VCOM by rule 2"),
+        (!capture::LISTED_FLAGS, "bits not listed"),
     ];
     let set: Vec<&str> = words
         .iter()

@@ -5,8 +5,7 @@
 
 use std::mem;
 
-use chips::uc8253::Uc8253;
-
+use crate::chip::Chip;
 use crate::rows;
 
 pub type Row = [u64; 5];
@@ -43,7 +42,7 @@ impl Log {
     }
 
     /// What the chip has reported since its rows were taken last.
-    pub fn add_from(&mut self, chip: &mut Uc8253) {
+    pub fn add_from(&mut self, chip: &mut Chip) {
         for diagnostic in chip.take_diagnostics() {
             self.add(rows::numbers(&diagnostic));
         }

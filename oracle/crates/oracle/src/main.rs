@@ -16,11 +16,12 @@ const USAGE: &str = "usage: oracle run | trace | list   (a capture on standard i
        oracle page
        oracle make SEED
        oracle stats SEED N
-       oracle answers SEED LEVELS GREYS REFRESHES
+       oracle answers SEED LEVELS GREYS REFRESHES [RULED]
        oracle replays SEED N DIR
-       oracle jobs DIR
+       oracle jobs DIR [ruled]
        oracle cases DIR | check DIR
        oracle compare PANEL N SEED
+       oracle tables TEST_GLASS N SEED
        oracle damaged PANEL SECONDS SEED
 ";
 
@@ -76,16 +77,25 @@ fn obey(words: &[&str]) -> io::Result<ExitCode> {
         ["page"] => say(page::page())?,
         ["make", seed] => say(generate::make(number(seed)?))?,
         ["stats", seed, count] => say(stats::stats(number(seed)?, number(count)?))?,
-        ["answers", seed, levels, greys, refreshes] => say(answers::answers(
-            number(seed)?,
-            number(levels)?,
-            number(greys)?,
-            number(refreshes)?,
-        ))?,
+        ["answers", seed, levels, greys, refreshes, ruled @ ..] if ruled.len() < 2 => {
+            let ruled = ruled.first().map(|count| number(count)).transpose()?;
+            say(answers::answers(
+                number(seed)?,
+                number(levels)?,
+                number(greys)?,
+                number(refreshes)?,
+                ruled,
+            ))?;
+        }
+        ["tables", program, count, seed] => {
+            let (count, seed) = (number(count)?, number(seed)?);
+            return Ok(verdict(answers::tables(Path::new(program), count, seed)?));
+        }
         ["replays", seed, count, directory] => {
             replays::write(number(seed)?, number(count)?, Path::new(directory))?;
         }
-        ["jobs", directory] => jobs::write(Path::new(directory))?,
+        ["jobs", directory] => jobs::write(Path::new(directory), false)?,
+        ["jobs", directory, "ruled"] => jobs::write(Path::new(directory), true)?,
         ["cases", directory] => cases::write(Path::new(directory))?,
         ["check", directory] => {
             let (text, equal) = cases::check(Path::new(directory))?;

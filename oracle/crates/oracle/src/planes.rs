@@ -1,15 +1,16 @@
 //! Digests of the two RAM planes, read bit by bit through `ram_bit`.
 
-use chips::uc8253::{Plane, RAM_GATES, RAM_SOURCES, Uc8253};
+use chips::uc8253::{Plane, RAM_GATES, RAM_SOURCES};
 
 use crate::capture::{self, Event};
+use crate::chip::Chip;
 
 const FNV_OFFSET: u64 = 0xCBF2_9CE4_8422_2325;
 const FNV_PRIME: u64 = 0x0000_0100_0000_01B3;
 const ROW_BYTES: u16 = RAM_SOURCES / 8;
 
 /// Columns 8 `byte` to 8 `byte` + 7 of a row, highest bit first.
-fn packed(chip: &Uc8253, plane: Plane, byte: u16, row: u16) -> u64 {
+fn packed(chip: &Chip, plane: Plane, byte: u16, row: u16) -> u64 {
     (0..8).fold(0, |bits, bit| {
         bits << 1 | u64::from(chip.ram_bit(plane, 8 * byte + bit, row) == Some(true))
     })
@@ -17,7 +18,7 @@ fn packed(chip: &Uc8253, plane: Plane, byte: u16, row: u16) -> u64 {
 
 /// FNV-1a, 64 bits, over the plane packed eight columns a byte, highest first, row by row; the
 /// rows from `reach` on are known to be zero.
-pub fn digest(chip: &Uc8253, plane: Plane, reach: u16) -> u64 {
+pub fn digest(chip: &Chip, plane: Plane, reach: u16) -> u64 {
     let mut hash = FNV_OFFSET;
     for row in 0..reach {
         for byte in 0..ROW_BYTES {
@@ -69,7 +70,7 @@ pub struct Planes {
 }
 
 impl Planes {
-    pub fn at_making(chip: &Uc8253) -> Planes {
+    pub fn at_making(chip: &Chip) -> Planes {
         Planes {
             old: digest(chip, Plane::Old, RAM_GATES),
             new: digest(chip, Plane::New, RAM_GATES),
@@ -83,7 +84,7 @@ impl Planes {
     }
 
     /// Follows `chip` over `event`, which it has met.
-    pub fn follow(&mut self, event: Event, chip: &Uc8253) {
+    pub fn follow(&mut self, event: Event, chip: &Chip) {
         self.clock = self.clock.max(event.time);
         let ended = self.deadline.is_some_and(|end| end <= self.clock);
         self.deadline = chip.next_deadline().map(|end| end.get());
@@ -98,7 +99,7 @@ impl Planes {
         }
     }
 
-    fn data(&mut self, byte: u8, chip: &Uc8253) {
+    fn data(&mut self, byte: u8, chip: &Chip) {
         self.first_row.follow(self.command, self.received, byte);
         self.received = self.received.saturating_add(1);
         let reach = self

@@ -5,7 +5,7 @@ use std::io;
 use std::path::Path;
 
 use crate::cases;
-use crate::generate::{self, rate};
+use crate::generate::{self, rate, rules};
 use crate::run;
 
 /// How a capture ends.
@@ -39,12 +39,18 @@ impl End {
     }
 }
 
-/// To so many captures without a rate there is one with.
+/// To so many captures without a rate there is one with, and one by a host that chooses VCOM's rule.
 const RATED_SHARE: usize = 2;
+const RULED_SHARE: usize = 2;
 
 /// The capture of a seed that has a rate.
 fn rated(seed: u64) -> Option<Vec<u8>> {
-    rate::board(seed).map(|_| generate::make(seed))
+    rate::board(seed).map(|_| generate::rated(seed))
+}
+
+/// The capture of a seed whose host chooses VCOM's rule, perhaps with a rate.
+fn ruled(seed: u64) -> Option<Vec<u8>> {
+    rules::rules(seed).map(|_| generate::make(seed))
 }
 
 /// How a capture ends, and its output.
@@ -110,6 +116,7 @@ pub fn sample(seed: u64, count: usize) -> Sample {
     sample.add_cases();
     sample.add_generated(seed, count, |seed| Some(generate::plain(seed)));
     sample.add_generated(seed, count / RATED_SHARE, rated);
+    sample.add_generated(seed, count / RULED_SHARE, ruled);
     sample
 }
 

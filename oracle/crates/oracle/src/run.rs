@@ -4,9 +4,10 @@ use std::fmt::Write;
 
 use chips::lines::ONE_GIGAHERTZ;
 use chips::uc8253::{PanelImage, RefreshKind, Uc8253};
-use emu_core::Cycles;
 
-use crate::capture::{self, Capture, Configuration, Event};
+use crate::capture::{Capture, Configuration, Event};
+pub use crate::chip::Answer;
+use crate::chip::{Chip, Judges};
 use crate::clock::Clock;
 use crate::log::Log;
 use crate::refusal::Refusal;
@@ -16,7 +17,7 @@ use crate::rows;
 pub const MOST_PIXELS: u64 = 8_000;
 
 /// The chip of a configuration, or refusals 1 to 4 and 13, then 10.
-pub fn make(configuration: &Configuration) -> Result<Uc8253, Refusal> {
+pub fn make(configuration: &Configuration) -> Result<Chip, Refusal> {
     let chip = make_any(configuration)?;
     if configuration.pixels() > MOST_PIXELS {
         return Err(Refusal::TooManyPixels);
@@ -26,41 +27,30 @@ pub fn make(configuration: &Configuration) -> Result<Uc8253, Refusal> {
 
 /// The chip of a configuration of any size up to 800 by 600, or refusals 1 to 4 by the Rust's own
 /// test, which comes before that of the rate, then 13.
-pub fn make_any(configuration: &Configuration) -> Result<Uc8253, Refusal> {
+pub fn make_any(configuration: &Configuration) -> Result<Chip, Refusal> {
     let clock = configuration.clock();
     let time_base = clock.map_or(ONE_GIGAHERTZ, Clock::time_base);
-    let chip = Uc8253::new(configuration.chip(), time_base)?;
-    clock.map(|_| chip)
+    let published = Uc8253::new(configuration.chip(), time_base)?;
+    clock.map(|clock| Chip::new(published, clock, configuration.rule()))
 }
 
 /// What a word of `jollanqe` plays: the tests of the program without 10.
-pub fn accept_any(file: &[u8]) -> Result<(Capture, Uc8253), Refusal> {
+pub fn accept_any(file: &[u8]) -> Result<(Capture, Chip), Refusal> {
     let capture = Capture::read(file)?;
     let chip = make_any(&capture.configuration)?;
     Ok((capture, chip))
 }
 
 /// The capture and its chip at making, or the first refusal in the program's order.
-pub fn accept(file: &[u8]) -> Result<(Capture, Uc8253), Refusal> {
+pub fn accept(file: &[u8]) -> Result<(Capture, Chip), Refusal> {
     let capture = Capture::read(file)?;
     let chip = make(&capture.configuration)?;
     Ok((capture, chip))
 }
 
-/// What a read event gives: outer none for an event that is no read.
-pub type Answer = Option<Option<u8>>;
-
 /// Lets the chip meet one listed event.
-pub fn step(chip: &mut Uc8253, event: Event) -> Answer {
-    let now = Cycles(event.time);
-    match event.kind {
-        capture::COMMAND => chip.write_command(now, event.value),
-        capture::DATA => chip.write_data(now, event.value),
-        capture::READ => return Some(chip.read_data(now)),
-        capture::RESET => chip.set_reset(now, event.value == 1),
-        _ => chip.advance(now),
-    }
-    None
+pub fn step(chip: &mut Chip, event: Event) -> Answer {
+    chip.meet(event)
 }
 
 /// What the whole run leaves to print.
@@ -69,13 +59,14 @@ pub struct Outcome {
     pub reads: Vec<(u64, Option<u8>)>,
     pub log: Log,
     pub image: PanelImage,
+    pub judges: Judges,
 }
 
 /// Runs the events of an accepted capture; `watch` sees the chip after each.
 pub fn events(
-    mut chip: Uc8253,
+    mut chip: Chip,
     events: &[Event],
-    mut watch: impl FnMut(usize, Event, &Uc8253),
+    mut watch: impl FnMut(usize, Event, &Chip),
 ) -> Outcome {
     let mut reads = Vec::new();
     let mut log = Log::default();
@@ -90,11 +81,13 @@ pub fn events(
         reads,
         log,
         image: chip.panel_image().clone(),
+        judges: chip.judges(),
     }
 }
 
 /// The log as the Rust itself keeps it, with no row left out.
-pub fn own_log(mut chip: Uc8253, events: &[Event]) -> Log {
+pub fn own_log(chip: Chip, events: &[Event]) -> Log {
+    let mut chip = chip.without_pictures();
     for &event in events {
         step(&mut chip, event);
     }
@@ -165,6 +158,7 @@ pub struct Judged {
     pub text: String,
     pub is_refused: bool,
     pub left_out: u64,
+    pub judges: Judges,
 }
 
 /// A log of which no row is left out is the Rust's own, also where rows are dropped.
@@ -184,6 +178,7 @@ pub fn judge(file: &[u8]) -> Judged {
             text: NO_EVENTS.to_string(),
             is_refused: false,
             left_out: 0,
+            judges: Judges::default(),
         };
     }
     match accept(file) {
@@ -191,6 +186,7 @@ pub fn judge(file: &[u8]) -> Judged {
             text: refused(refusal),
             is_refused: true,
             left_out: 0,
+            judges: Judges::default(),
         },
         Ok((capture, chip)) => {
             let outcome = events(chip, &capture.events, |_, _, _| ());
@@ -199,6 +195,7 @@ pub fn judge(file: &[u8]) -> Judged {
                 text: report(&outcome),
                 is_refused: false,
                 left_out: outcome.log.left_out,
+                judges: outcome.judges,
             }
         }
     }

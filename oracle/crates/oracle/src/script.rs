@@ -107,6 +107,11 @@ impl Script {
         self.event(capture::RESET, 0)
     }
 
+    /// VCOM by the rule of this number.
+    pub fn rule(self, number: u8) -> Script {
+        self.event(capture::VCOM_RULE, number)
+    }
+
     pub fn advance(self) -> Script {
         self.event(capture::ADVANCE, 0)
     }

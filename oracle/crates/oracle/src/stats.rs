@@ -115,6 +115,7 @@ fn add_capture(tally: &mut Tally, seed: u64) {
     tally.add_rows(&outcome.log.stored);
     tally.dropped += outcome.log.dropped;
     tally.captures_with_dropped += u64::from(outcome.log.dropped != 0);
+    tally.judges.add(outcome.judges);
     let facts = watch::facts(&capture);
     tally.add_rate(capture.configuration.rate, Some(&facts));
     tally.add_facts(facts);

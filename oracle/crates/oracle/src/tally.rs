@@ -3,6 +3,7 @@
 use std::collections::{BTreeMap, BTreeSet};
 use std::fmt::Write;
 
+use crate::chip::Judges;
 use crate::generate::rate;
 use crate::refusal::Refusal;
 use crate::rows::KIND_WORDS;
@@ -72,6 +73,7 @@ pub struct Tally {
     pub values: BTreeMap<&'static str, BTreeSet<u64>>,
     /// The captures with a rate of each class, or with none.
     pub rates: BTreeMap<&'static str, Rated>,
+    pub judges: Judges,
 }
 
 /// Captures of one class of rates, refused ones too, and the refreshes in those that are accepted.
@@ -149,6 +151,7 @@ impl Tally {
         self.between += other.between;
         self.events += other.events;
         self.pixels += other.pixels;
+        self.judges.add(other.judges);
         for (class, more) in other.rates {
             let rated = self.rates.entry(class).or_default();
             rated.captures += more.captures;
@@ -192,6 +195,20 @@ impl Tally {
         );
         let _ = writeln!(text, "refreshes ended by themselves {}", self.ended);
         let _ = writeln!(text, "refreshes cut by reset {}", self.cut);
+        for (who, count) in [
+            ("of rule 1, by the Rust", self.judges.first),
+            (
+                "of rule 2, tables of one timing, by the Rust",
+                self.judges.alike,
+            ),
+            ("of rule 2, walked", self.judges.second),
+            (
+                "of either rule, walked after one of these",
+                self.judges.after,
+            ),
+        ] {
+            let _ = writeln!(text, "refreshes {who} {count}");
+        }
         for (what, part) in [
             (
                 "ended a refresh that changed a grey",

@@ -4,3 +4,4 @@ mod format;
 mod paper;
 mod program;
 mod rates;
+mod rules;

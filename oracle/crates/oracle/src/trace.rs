@@ -2,14 +2,14 @@
 
 use std::fmt::Write;
 
-use chips::uc8253::Uc8253;
 use emu_core::{Cycles, Level};
 
 use crate::capture::Event;
+use crate::chip::Chip;
 use crate::planes::Planes;
 use crate::run;
 
-fn line(text: &mut String, index: usize, event: Event, chip: &Uc8253, planes: &Planes) {
+fn line(text: &mut String, index: usize, event: Event, chip: &Chip, planes: &Planes) {
     let busy = match chip.busy_pin(Cycles(event.time)) {
         Level::Low => "low",
         Level::High => "high",

@@ -9,15 +9,24 @@ use Rattle.capture.proofs.layout.config_at.Tie as tie
 
 returns : tie.Need-returns
 returns c =
-    let sort = c .before .before .before .before in
+    let sort = c .before .before .before .before .before in
     let a = sort .before .before .before .args in
     let v = sort .before .byte .ensures ∙ ap (λ (p : ℕ). getD (a .file .now) p 0) (add-zero (a .at)) in
-    simp (c .byte2 .ensures, c .before .timing .ensures, c .before .before .optics .ensures, c .before .before .before .panel .ensures, sort .variant .ensures, v)
+    simp (
+      c .byte3 .ensures,
+      c .before .byte2 .ensures,
+      c .before .before .timing .ensures,
+      c .before .before .before .optics .ensures,
+      c .before .before .before .before .panel .ensures,
+      sort .variant .ensures,
+      v,
+    )
 
 pub config-at-spec : {M : Type 1} → statement M
 config-at-spec =
     tie.close
     (tie.spec
+    (λ c κs. search needs)
     (λ c κs. search needs)
     (λ c κs. search needs)
     (λ c κs. search needs)

@@ -1,6 +1,7 @@
 -- `capture::refusals::listed` meets its contract: the kinds in turn.
 use borrow.Author.Tests.{eq-eqb, ne-eqb}
 use Rattle.capture.specs.Refused.{listed}
+use borrow.Author.Needs.{needs}
 use Rattle.capture.proofs.refusals.listed.Statement.{statement}
 use Rattle.capture.proofs.refusals.listed.Tie as tie
 
@@ -26,7 +27,11 @@ returns-5 c = simp (eq-eqb _ _ (c .if5 .taken), ne-eqb _ _ (c .before .if4 .left
 
 returns-6 : tie.Need-returns-6
 unfolding listed
-returns-6 c = simp (ne-eqb _ _ (c .if5 .left), ne-eqb _ _ (c .before .if4 .left), ne-eqb _ _ (c .before .before .if3 .left), ne-eqb _ _ (c .before .before .before .if2 .left), ne-eqb _ _ (c .before .before .before .before .if1 .left))
+returns-6 c = simp (c .rule .ensures, eq-eqb _ _ (c .before .if6 .taken), ne-eqb _ _ (c .before .before .if5 .left), ne-eqb _ _ (c .before .before .before .if4 .left), ne-eqb _ _ (c .before .before .before .before .if3 .left), ne-eqb _ _ (c .before .before .before .before .before .if2 .left), ne-eqb _ _ (c .before .before .before .before .before .before .if1 .left))
+
+returns-7 : tie.Need-returns-7
+unfolding listed
+returns-7 c = simp (ne-eqb _ _ (c .if6 .left), ne-eqb _ _ (c .before .if5 .left), ne-eqb _ _ (c .before .before .if4 .left), ne-eqb _ _ (c .before .before .before .if3 .left), ne-eqb _ _ (c .before .before .before .before .if2 .left), ne-eqb _ _ (c .before .before .before .before .before .if1 .left))
 
 pub listed-spec : {M : Type 1} → statement M
-listed-spec = tie.close (tie.spec returns returns-2 returns-3 returns-4 returns-5 returns-6)
+listed-spec = tie.close (tie.spec returns returns-2 returns-3 returns-4 returns-5 (λ c κs. search needs) returns-6 returns-7)

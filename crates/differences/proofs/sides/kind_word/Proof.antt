@@ -43,16 +43,25 @@ returns-5 c =
     puts-as (put .put5 .ensures) (sym (ap kindWord (arm .match .keys5)))
 
 returns-6 : tie.Need-returns-6
+unfolding kindWord
 returns-6 c =
     let put = c .before .before in
     let arm = put .before .before .before in
+    puts-as (put .put6 .ensures) (sym (ap kindWord (arm .match .keys6)))
+
+returns-7 : tie.Need-returns-7
+returns-7 c =
+    let put = c .before .before in
+    let arm = put .before .before .before in
     let start = arm .before .before in
-    puts-as (put .put6 .ensures) (unnamed (start .args .kind) (arm .match .rest))
+    puts-as (put .put7 .ensures) (unnamed (start .args .kind) (arm .match .rest))
 
 pub kind-word-spec : {M : Type 1} → statement M
 kind-word-spec =
     tie.close
     (tie.spec
+    (λ c. search needs)
+    (λ c κs. search needs)
     (λ c. search needs)
     (λ c κs. search needs)
     (λ c. search needs)
@@ -76,4 +85,6 @@ kind-word-spec =
     (λ c. search needs)
     returns-5
     (λ c. search needs)
-    returns-6)
+    returns-6
+    (λ c. search needs)
+    returns-7)

@@ -2,7 +2,7 @@
 use mathlib.Core.Path.{refl, ap}
 use Rattle.base.specs.declared.refusals.Refusal.the-variants as refusal
 use Rattle.controller.specs.World.{world, buffers}
-use Rattle.event.proofs.EventLaws.{does-command, does-data, does-read, does-reset, does-advance, does-nothing, numberIn}
+use Rattle.event.proofs.EventLaws.{does-command, does-data, does-read, does-reset, does-advance, does-rule, does-nothing, numberIn}
 use Rattle.events.proofs.Stepping.{stepped}
 use borrow.Author.Needs.{needs}
 use Rattle.events.proofs.steps.step.Statement.{statement}
@@ -24,12 +24,17 @@ returns-5 : tie.Need-returns-5
 returns-5 c = let a = c .before .before .before .before .before .before .before .before .before .before .before .before .before .before .before .before .before .before .before .before .before .before .before .before .before .args in let w = world (a .p) (buffers (a .old .now) (a .new .now) (a .states .now) (a .numbers .now) (a .picture .now) (a .rows .now)) in let g = c .before .before .before .before .before .before .before .before .before .before .before .before .advance in stepped (a .event) w _ _ _ (c .no-read4 .ensures) (does-advance (a .event) w _ _ (c .before .before .before .before .before .before .before .before .before .before .before .before .before .before .before .before .before .before .before .match .keys5) (g .ensures .0) (g .ensures .1))
 
 returns-6 : tie.Need-returns-6
-returns-6 c = let a = c .before .before .before .before .before .before .args in let w = world (a .p) (buffers (a .old .now) (a .new .now) (a .states .now) (a .numbers .now) (a .picture .now) (a .rows .now)) in stepped (a .event) w _ refusal.Nothing _ refl (does-nothing (a .event) w (c .match .rest))
+returns-6 c = let a = c .before .before .before .before .before .before .before .before .before .before .before .before .before .before .before .before .before .before .before .before .before .before .before .before .before .args in let w = world (a .p) (buffers (a .old .now) (a .new .now) (a .states .now) (a .numbers .now) (a .picture .now) (a .rows .now)) in let g = c .before .before .before .before .before .before .before .before .before .before .before .before .set-vcom-rule in stepped (a .event) w _ _ _ (c .no-read5 .ensures) (does-rule (a .event) w _ _ (c .before .before .before .before .before .before .before .before .before .before .before .before .before .before .before .before .before .before .before .match .keys6) (g .ensures .0) (g .ensures .1))
+
+returns-7 : tie.Need-returns-7
+returns-7 c = let a = c .before .before .before .before .before .before .args in let w = world (a .p) (buffers (a .old .now) (a .new .now) (a .states .now) (a .numbers .now) (a .picture .now) (a .rows .now)) in stepped (a .event) w _ refusal.Nothing _ refl (does-nothing (a .event) w (c .match .rest))
 
 pub step-spec : {M : Type 1} → statement M
 step-spec =
     tie.close
     (tie.spec
+    (λ c κs. search needs)
+    (λ c κs. search needs)
     (λ c κs. search needs)
     (λ c κs. search needs)
     (λ c κs. search needs)
@@ -75,4 +80,11 @@ step-spec =
     (λ c. search needs)
     (λ c. search needs)
     returns-5
-    returns-6)
+    (λ c. search needs)
+    (λ c. search needs)
+    (λ c. search needs)
+    (λ c. search needs)
+    (λ c. search needs)
+    (λ c. search needs)
+    returns-6
+    returns-7)

@@ -5,10 +5,10 @@ use Rattle.test_glass.proofs.refresh.read_waveform.Statement.{statement
 use Rattle.test_glass.proofs.refresh.read_waveform.Tie as tie
 
 abbrev Inv-loop : tie.InvT-loop
-Inv-loop s at levels period luts₀ next₀ k₀ luts next k = k ≤ 5
+Inv-loop s at levels period byFrame luts₀ next₀ k₀ luts next k = k ≤ 5
 
 abbrev μ-loop : tie.MeasureT-loop
-μ-loop s at levels period luts₀ next₀ k₀ luts next k = 5 - k
+μ-loop s at levels period byFrame luts₀ next₀ k₀ luts next k = 5 - k
 
 pub read-waveform-spec : {M : Type 1} → statement M
 read-waveform-spec =

@@ -12,7 +12,7 @@ use Rattle.glass.proofs.TransferLaws.{acts-identity}
 use Rattle.waveform.specs.declared.Group.{Group}
 use Rattle.waveform.specs.Tables.{tableAt, tableFrameCount}
 use Rattle.waveform.specs.Frames.{framesOf}
-use Rattle.waveform.proofs.FramesLaws.{frames-none, frames-length}
+use Rattle.waveform.proofs.FramesLaws.{frames-none, frames-counted}
 use borrow.Author.Needs.{needs}
 use Rattle.waveform.proofs.Waveform.transfer.Statement.{statement}
 use Rattle.waveform.proofs.Waveform.transfer.Tie as tie
@@ -32,12 +32,7 @@ returns-2 c =
     c .before .table-frames .ensures .0
     ∙ ap (λ (t : List (List Group)). tableFrameCount (getD t (s .lut) [])) (c .before .before .before .tables .ensures) in
     let most : length ds ≤ c .before .table-frames .result =
-    omega (
-      arith,
-      all,
-      frames-length (s .self .levels) (s .self .«frame_ns») (s .positive-drives-black) (tableAt (s .self) (s .lut))
-          (tableAt (s .self) 0),
-    ) in
+    omega (arith, all, frames-counted (s .self) (s .positive-drives-black) (s .lut)) in
     subst (λ (l : List ℤ). Acts (s .swing) (c .transfer-first .result) l) (take-all (c .before .table-frames .result) ds most)
     (c .transfer-first .ensures)
 

@@ -3,11 +3,9 @@
 
 use oracle::capture::Capture;
 use oracle::generate::bench::{Bench, Panel};
+use oracle::generate::host::Host;
 use oracle::generate::panel::{USUAL_MILLIVOLTS, matched};
-use oracle::generate::rate::Board;
 use oracle::rng::Rng;
-
-use super::on;
 
 const FIRST_TABLE: u8 = 0x20;
 /// Frames that follow the longest table.
@@ -30,18 +28,24 @@ fn table(rng: &mut Rng, timing: &[[u8; 5]]) -> Vec<u8> {
         .collect()
 }
 
-/// Tables of one group or two, most in one timing; some are empty.
-fn tables(rng: &mut Rng) -> Tables {
+/// Tables of one group or two, most in one timing, VCOM's perhaps in its own; some are empty.
+fn tables(rng: &mut Rng, own_vcom: bool) -> Tables {
     let groups = rng.pick(&[1, 1, 1, 2]);
     let shared: Vec<_> = (0..groups).map(|_| group_timing(rng)).collect();
-    [0; 5].map(|_: u8| match rng.below(10) {
+    let mut tables = [0; 5].map(|_: u8| match rng.below(10) {
         0..=2 => Vec::new(),
         3 => {
             let own = [group_timing(rng)];
             table(rng, &own)
         }
         _ => table(rng, &shared),
-    })
+    });
+    if own_vcom {
+        let groups = rng.pick(&[1, 1, 2, 3]);
+        let own: Vec<_> = (0..groups).map(|_| group_timing(rng)).collect();
+        tables[0] = table(rng, &own);
+    }
+    tables
 }
 
 /// A few pixels, a swing of a few frames, a period that leaves nanoseconds between boundaries or
@@ -127,14 +131,15 @@ fn around(bench: &mut Bench, tables: &Tables, frames: u64) -> Option<u64> {
 }
 
 /// Every boundary of a short waveform, start and end included.
-pub fn each(rng: Rng, board: Option<Board>) -> Capture {
+pub fn each(rng: Rng, host: &mut Host) -> Capture {
     let panel = panel(rng);
     let start = panel.start;
     let mut bench = Bench::long(Panel {
         start,
-        ..on(board, panel)
+        ..host.with(panel)
     });
-    let tables = tables(&mut bench.rng);
+    let own_vcom = bench.own_vcom;
+    let tables = tables(&mut bench.rng, own_vcom);
     let mut frames = 0;
     while let Some(next) = around(&mut bench, &tables, frames) {
         frames = next;
@@ -145,17 +150,16 @@ pub fn each(rng: Rng, board: Option<Board>) -> Capture {
 /// The start, and one boundary.
 pub fn some(rng: Rng) -> Capture {
     let mut bench = Bench::long(panel(rng));
-    let tables = tables(&mut bench.rng);
+    let tables = tables(&mut bench.rng, false);
     let frames = bench.rng.between(1, 1 + TAIL_FRAMES);
     let _ = around(&mut bench, &tables, frames);
     bench.capture()
 }
 
 /// A refresh that begins so late that its end is held, whole or cut beside a boundary.
-pub fn held(rng: Rng, board: Option<Board>) -> Capture {
-    let mut panel = panel(rng);
-    let tables = tables(&mut panel.rng);
-    panel = on(board, panel);
+pub fn held(rng: Rng, host: &mut Host) -> Capture {
+    let mut panel = host.with(panel(rng));
+    let tables = tables(&mut panel.rng, panel.own_vcom);
     panel.configuration.power_on = 0;
     let mut bench = Bench::long(panel);
     let period = bench.period();

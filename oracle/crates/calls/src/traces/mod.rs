@@ -6,8 +6,8 @@ mod pages;
 mod panels;
 
 use oracle::capture::Capture;
-use oracle::generate::bench::{Bench, Panel};
-use oracle::generate::rate::{self, Board};
+use oracle::generate::bench::Bench;
+use oracle::generate::host::Host;
 use oracle::generate::{self, hostile};
 use oracle::rng::Rng;
 
@@ -46,38 +46,32 @@ pub fn make(seed: u64) -> Trace {
     };
     Trace {
         name: NAMES[name],
-        capture: capture(name, rng, rate::board(seed)),
+        capture: capture(name, rng, Host::of(seed)),
     }
 }
 
-fn capture(name: usize, mut rng: Rng, board: Option<Board>) -> Capture {
-    match name {
-        0 => generated(&mut rng, generate::make),
-        1 => boundaries::each(rng, board),
-        2 => boundaries::held(rng, board),
-        3 => pages::refreshes(small(rng, board)),
-        4 => pages::turns(small(rng, board)),
-        5 => hostile(small(rng, board)),
-        6 => pages::counts(small(rng, board)),
+fn capture(name: usize, mut rng: Rng, mut host: Host) -> Capture {
+    let mut capture = match name {
+        0 => return generated(&mut rng, generate::make),
+        1 => boundaries::each(rng, &mut host),
+        2 => boundaries::held(rng, &mut host),
+        3 => pages::refreshes(small(rng, &mut host)),
+        4 => pages::turns(small(rng, &mut host)),
+        5 => hostile(small(rng, &mut host)),
+        6 => pages::counts(small(rng, &mut host)),
         7 => {
             let size = panels::large(&mut rng);
-            pages::whole(Bench::long(on(board, panels::of_size(rng, size))))
+            pages::whole(Bench::long(host.with(panels::of_size(rng, size))))
         }
-        _ => pages::whole(Bench::long(on(board, panels::x3(rng)))),
-    }
+        _ => pages::whole(Bench::long(host.with(panels::x3(rng)))),
+    };
+    host.add_to_any(&mut capture);
+    capture
 }
 
-/// The panel on its board, which may have a rate.
-fn on(board: Option<Board>, panel: Panel) -> Panel {
-    match board {
-        None => panel,
-        Some(mut board) => board.with(panel),
-    }
-}
-
-fn small(mut rng: Rng, board: Option<Board>) -> Bench {
+fn small(mut rng: Rng, host: &mut Host) -> Bench {
     let size = panels::small(&mut rng);
-    Bench::long(on(board, panels::of_size(rng, size)))
+    Bench::long(host.with(panels::of_size(rng, size)))
 }
 
 /// A capture of the generator whose file can be read; its making may be refused.
@@ -97,20 +91,21 @@ fn hostile(mut bench: Bench) -> Capture {
     }
 }
 
-/// A trace on a small panel with more rows than are kept; no rate.
+/// A trace on a small panel with more rows than are kept; no rate, and rule 1.
 pub fn crowded(seed: u64) -> Capture {
-    hostile::flood(small(Rng::new(seed), None))
+    hostile::flood(small(Rng::new(seed), &mut Host::plain()))
 }
 
-/// A trace that is often short, of one kind after the other; no rate.
+/// A trace that is often short, of one kind after the other; no rate, and rule 1.
 pub fn short(seed: u64) -> Capture {
     let mut rng = Rng::new(seed);
+    let plain = &mut Host::plain();
     match seed % 7 {
         0 => boundaries::some(rng),
-        1 => boundaries::held(rng, None),
-        2 => pages::few_refreshes(small(rng, None)),
-        3 => hostile::storm(small(rng, None)),
-        4 => pages::questions(small(rng, None)),
+        1 => boundaries::held(rng, plain),
+        2 => pages::few_refreshes(small(rng, plain)),
+        3 => hostile::storm(small(rng, plain)),
+        4 => pages::questions(small(rng, plain)),
         _ => generated(&mut rng, generate::plain),
     }
 }

@@ -97,6 +97,7 @@ pub fn x3(mut rng: Rng) -> Panel {
         frames: X3_FRAMES,
         start: 0,
         pace: rng.below(2),
+        own_vcom: false,
         rng,
     }
 }

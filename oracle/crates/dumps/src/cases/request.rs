@@ -1,6 +1,6 @@
 //! The sentences of request 2026-01.
 
-use oracle::capture::{COMMAND, Configuration, DATA, RESET};
+use oracle::capture::{COMMAND, Configuration, DATA, RESET, VCOM_BY_FRAME};
 use oracle::script::example_panel;
 
 use super::Answer::{Events, Refused};
@@ -347,6 +347,28 @@ const EXAMPLE: &[(u64, u8, u8)] = &[
     (100, COMMAND, 0x12),
 ];
 
+/// VCOM's codes 0 2 0 2 0 2 beside five frames of a pixel's code 2, from 100 to 8100.
+const RULE_2: &[(u64, u8, u8)] = &[
+    (0, COMMAND, 0x00),
+    (0, DATA, 0x3F),
+    (0, COMMAND, 0x04),
+    (100, COMMAND, 0x20),
+    (100, DATA, 0x20),
+    (100, DATA, 0x01),
+    (100, DATA, 0x01),
+    (100, DATA, 0x00),
+    (100, DATA, 0x00),
+    (100, DATA, 0x03),
+    (100, COMMAND, 0x24),
+    (100, DATA, 0x80),
+    (100, DATA, 0x05),
+    (100, DATA, 0x00),
+    (100, DATA, 0x00),
+    (100, DATA, 0x00),
+    (100, DATA, 0x01),
+    (100, COMMAND, 0x12),
+];
+
 pub fn wholes() -> Vec<Case> {
     let last = "the last time, 0 if none, is an advance at the end";
     let one = "signals of one code in the order named";
@@ -418,6 +440,7 @@ fn panel(change: impl Fn(&mut Configuration)) -> Vec<u8> {
 pub fn configurations() -> Vec<Case> {
     let eight = "8: configuration bytes of a wrong length, tested first";
     let after = "after 12 come 9 and 1 to 4";
+    let rule = "2026-08: flag bit 3 selects rule 2 at making";
     let sound = bytes(&example_panel());
     let rated = Configuration {
         rate: Some(1_000_000_000),
@@ -455,7 +478,7 @@ pub fn configurations() -> Vec<Case> {
         ),
         with("config-variant-and-sources", after, bad, 9),
         with("config-variant-2", after, panel(|of| of.variant = 2), 9),
-        with("config-flag-8", after, panel(|of| of.flags |= 8), 9),
+        with("config-flag-16", after, panel(|of| of.flags |= 16), 9),
         with("config-flag-128", after, panel(|of| of.flags |= 128), 9),
         with("config-sources-0", after, panel(|of| of.sources = 0), 1),
         with("config-gates-0", after, panel(|of| of.gates = 0), 1),
@@ -487,5 +510,16 @@ pub fn configurations() -> Vec<Case> {
             3,
         ),
         with("config-period-0", after, panel(|of| of.periods[31] = 0), 4),
+        Case {
+            configuration: panel(|of| of.flags |= VCOM_BY_FRAME),
+            ..Case::new("config-flag-8", rule, BASE.as_bytes().to_vec(), SAME)
+        },
+        Case {
+            configuration: panel(|of| {
+                of.flags |= VCOM_BY_FRAME;
+                of.full_swing *= 4;
+            }),
+            ..whole("rule-2", rule, sent(RULE_2, 8_100), Events(RULE_2, 8_100))
+        },
     ]
 }

@@ -44,6 +44,10 @@ fn the_example_is_the_rules_own() {
         String::from_utf8(case.expect("it is there").lines()).expect("it is text")
     };
     assert_eq!(lines("example"), oracle::cases::EXAMPLE_OUTPUT);
+    // up by an eighth in the first, third and fifth frame
+    let rows = "diag 100 13 32 6 0\ndiag 100 13 36 6 0\ndropped 0\n";
+    let picture = "image 8 1 1 full 0 100 8100\n96 96 96 96 96 96 96 96\n";
+    assert_eq!(lines("rule-2"), format!("{rows}{picture}"));
     assert!(lines("example-too-short").contains("image 8 1 0 poweron 0 0 0\n"));
 }
 

@@ -4,6 +4,7 @@ mod commands;
 mod rates;
 mod refreshes;
 mod refusals;
+mod vcom;
 
 use std::fmt::Write;
 use std::fs;
@@ -74,6 +75,7 @@ pub fn all() -> Vec<Case> {
     cases.extend(commands::cases());
     cases.extend(refusals::cases());
     cases.extend(rates::cases());
+    cases.extend(vcom::cases());
     cases
 }
 

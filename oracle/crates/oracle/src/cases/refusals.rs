@@ -125,7 +125,7 @@ fn files() -> Vec<Case> {
         ),
         Case::of_file(
             "refused-9-kind",
-            "event kind 6",
+            "event kind 6 with value 0",
             with_event(example_panel(), 6, 0),
         ),
         Case::of_file(
@@ -157,7 +157,7 @@ fn two_faults() -> Vec<Case> {
         ),
         (
             "two-faults-9-1",
-            "event kind 6 and no source: refusal 9",
+            "event kind 6 with value 0 and no source: refusal 9",
             unlisted,
         ),
         (

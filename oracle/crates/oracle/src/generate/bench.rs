@@ -1,8 +1,7 @@
 //! A capture under construction, with the published chip running beside it.
 
-use chips::uc8253::Uc8253;
-
 use crate::capture::{self, Capture, Configuration, Event};
+use crate::chip::Chip;
 use crate::clock::Clock;
 use crate::rng::Rng;
 use crate::run;
@@ -17,6 +16,8 @@ pub struct Panel {
     pub start: u64,
     /// How much later each further event comes.
     pub pace: u64,
+    /// Most of VCOM's tables have a timing of their own.
+    pub own_vcom: bool,
 }
 
 /// The columns and rows that a stream fills, their ends included.
@@ -32,12 +33,13 @@ pub struct Bench {
     /// The board's clock.
     pub board: Clock,
     pub frames: u64,
+    pub own_vcom: bool,
     /// The time of the next event.
     pub clock: u64,
     pace: u64,
     /// The largest time sent: the chip's own clock.
     now: u64,
-    chip: Uc8253,
+    chip: Chip,
     /// The most events, and those so far.
     most: usize,
     events: Vec<Event>,
@@ -66,12 +68,15 @@ impl Bench {
     /// A run of any length, on a panel of any size.
     pub fn long(panel: Panel) -> Bench {
         let in_range = "a panel is made to be in range";
-        let chip = run::make_any(&panel.configuration).expect(in_range);
+        let chip = run::make_any(&panel.configuration)
+            .expect(in_range)
+            .without_pictures();
         Bench {
             board: panel.configuration.clock().expect(in_range),
             rng: panel.rng,
             configuration: panel.configuration,
             frames: panel.frames,
+            own_vcom: panel.own_vcom,
             clock: panel.start,
             pace: panel.pace,
             now: 0,

@@ -89,12 +89,13 @@ fn crowd(rng: &mut Rng, of: &mut Configuration) {
 fn bad_event(rng: &mut Rng, capture: &mut Capture) {
     let at = rng.below(capture.events.len() as u64) as usize;
     let Event { kind, value, .. } = &mut capture.events[at];
-    match rng.below(6) {
+    match rng.below(7) {
         0 => capture.configuration.variant = rng.between(2, 255) as u8,
-        1 => capture.configuration.flags |= 8 << rng.below(5),
-        2 => *kind = rng.pick(&[0, 6, 7, 255]),
+        1 => capture.configuration.flags |= 16 << rng.below(4),
+        2 => *kind = rng.pick(&[0, 7, 8, 255]),
         3 => (*kind, *value) = (3, rng.between(1, 255) as u8),
         4 => (*kind, *value) = (4, rng.between(2, 255) as u8),
+        5 => (*kind, *value) = (6, rng.pick(&[0, 3, 4, 128, 255])),
         _ => (*kind, *value) = (5, rng.between(1, 255) as u8),
     }
 }

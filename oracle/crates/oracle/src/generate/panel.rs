@@ -119,6 +119,7 @@ pub fn matched(mut rng: Rng) -> Panel {
         frames,
         start: start(&mut rng),
         pace: pace(&mut rng),
+        own_vcom: false,
         rng,
     }
 }
@@ -142,6 +143,7 @@ pub fn extreme(mut rng: Rng) -> Panel {
         frames: rng.between(1, 12),
         start: extreme_start(&mut rng),
         pace: pace(&mut rng),
+        own_vcom: false,
         rng,
     }
 }

@@ -106,6 +106,24 @@ fn vcom(rng: &mut Rng, timing: &Timing, frames: u64) -> Vec<u8> {
     }
 }
 
+/// VCOM's table in a timing of its own: shorter, longer, or in other groups and repeats.
+fn own_vcom(rng: &mut Rng, timing: &Timing, frames: u64) -> Vec<u8> {
+    let lean = rng.pick(&[0, 1, 2, 3]);
+    let mut own = match rng.below(4) {
+        0 => timing.clone(),
+        _ => self::timing(rng, frames),
+    };
+    for group in &mut own {
+        match rng.below(4) {
+            0 => group[4] = rng.between(1, 5) as u8,
+            1 => group[rng.below(4) as usize] = rng.between(1, 2 * frames).min(255) as u8,
+            2 => group[..4].rotate_left(rng.below(4) as usize),
+            _ => {}
+        }
+    }
+    table(&own, || selects(rng, lean))
+}
+
 /// Sends `table` under `command`, in one of the lengths that drivers send.
 fn load(bench: &mut Bench, command: u8, table: &[u8]) {
     let mut bytes = table.to_vec();
@@ -123,7 +141,7 @@ fn load(bench: &mut Bench, command: u8, table: &[u8]) {
 }
 
 /// The bytes of one table, most often in the timing that all share.
-fn one(rng: &mut Rng, command: u8, shared: &Timing, frames: u64) -> Vec<u8> {
+fn one(rng: &mut Rng, command: u8, shared: &Timing, frames: u64, has_own_vcom: bool) -> Vec<u8> {
     let own = if rng.chance(70) {
         shared.clone()
     } else {
@@ -131,17 +149,19 @@ fn one(rng: &mut Rng, command: u8, shared: &Timing, frames: u64) -> Vec<u8> {
     };
     let lean = rng.pick(&[1, 1, 2, 2, 3, 0]);
     match command {
+        LUTC if has_own_vcom && rng.chance(70) => own_vcom(rng, shared, frames),
         LUTC => vcom(rng, shared, frames),
         _ if rng.chance(6) => unusual(rng, &own),
         _ => table(&own, || selects(rng, lean)),
     }
 }
 
-/// Five tables of 42 bytes, about `frames` frames to a full swing.
-pub fn five(rng: &mut Rng, frames: u64) -> [Vec<u8>; 5] {
+/// Five tables of 42 bytes, about `frames` frames to a full swing; VCOM's often in a timing of its
+/// own.
+pub fn five(rng: &mut Rng, frames: u64, has_own_vcom: bool) -> [Vec<u8>; 5] {
     let shared = timing(rng, frames);
     [0, 1, 2, 3, 4].map(|number| {
-        let mut bytes = one(rng, LUTC + number, &shared, frames);
+        let mut bytes = one(rng, LUTC + number, &shared, frames, has_own_vcom);
         bytes.resize(TABLE_BYTES, 0);
         bytes
     })
@@ -149,14 +169,14 @@ pub fn five(rng: &mut Rng, frames: u64) -> [Vec<u8>; 5] {
 
 /// Loads the five tables, or some of them.
 pub fn tables(bench: &mut Bench) {
-    let frames = bench.frames;
+    let (frames, own_vcom) = (bench.frames, bench.own_vcom);
     let shared = timing(&mut bench.rng, frames);
     let all = bench.rng.chance(70);
     for command in LUTC..=LUTKK {
         if !all && bench.rng.chance(50) {
             continue;
         }
-        let bytes = one(&mut bench.rng, command, &shared, frames);
+        let bytes = one(&mut bench.rng, command, &shared, frames, own_vcom);
         load(bench, command, &bytes);
     }
 }

@@ -97,6 +97,7 @@ fn events_and_values_that_are_not_listed_are_bad() {
                 1 | 2 => true,
                 3 | 5 => value == 0,
                 4 => value < 2,
+                6 => value == 1 || value == 2,
                 _ => false,
             };
             let file = Script::new(example_panel()).event(kind, value).file();
@@ -111,6 +112,18 @@ fn events_and_values_that_are_not_listed_are_bad() {
                 "kind {kind} value {value}"
             );
         }
+    }
+}
+
+#[test]
+fn flags_up_to_15_are_listed() {
+    for flags in 0..=255 {
+        let panel = Configuration {
+            flags,
+            ..example_panel()
+        };
+        let bad = (flags > 15).then_some(9);
+        assert_eq!(refusal(&Script::new(panel).file()), bad, "flags {flags}");
     }
 }
 

@@ -1,10 +1,11 @@
 //! Document 01's example, and the lines of "Proved together" that the chip shows from outside.
 
 use chips::probe;
-use chips::uc8253::{Plane, Uc8253};
+use chips::uc8253::Plane;
 
 use crate::capture::Configuration;
 use crate::cases;
+use crate::chip::Chip;
 use crate::run::{self, Outcome};
 use crate::script::{Script, example_panel};
 
@@ -14,7 +15,7 @@ fn outcome(script: &Script) -> Outcome {
 }
 
 /// The chip after the script.
-fn chip(script: &Script) -> Uc8253 {
+fn chip(script: &Script) -> Chip {
     let (capture, mut chip) = run::accept(&script.file()).expect("accepted");
     for &event in &capture.events {
         run::step(&mut chip, event);

@@ -2,7 +2,9 @@
 
 use chips::uc8253::{Plane, RAM_GATES};
 
+use crate::capture::{Capture, VCOM_BY_FRAME, VCOM_RULE};
 use crate::planes::{self, Planes};
+use crate::refusal::Refusal;
 use crate::{cases, cuts, generate, jobs, log, picture, replays, run, stats, trace};
 
 /// Digests that are kept are those taken anew over the whole planes.
@@ -100,11 +102,56 @@ fn crate_file(path: &str) -> Vec<u8> {
     std::fs::read(crates.join(path)).expect("the file is stored")
 }
 
+/// The captures of a sample.
+fn captures(mut input: &[u8]) -> Vec<&[u8]> {
+    let mut captures = Vec::new();
+    while let Some((length, rest)) = input.split_first_chunk() {
+        let (file, rest) = rest.split_at(u32::from_le_bytes(*length) as usize);
+        captures.push(file);
+        input = rest;
+    }
+    captures
+}
+
+/// Whether 2026-08 lists what a capture holds and was not listed before.
+fn has_rules(file: &[u8]) -> bool {
+    Capture::read(file).is_ok_and(|capture| {
+        capture.configuration.flag(VCOM_BY_FRAME)
+            || capture.events.iter().any(|event| event.kind == VCOM_RULE)
+    })
+}
+
+/// The stored sample is the written one, and its outputs are the judge's. One that was stored
+/// before 2026-08 is held to the judge but for a capture that was refused by 9 then.
 #[test]
 fn the_stored_sample_is_the_written_one() {
-    let sample = replays::sample(1, 344);
-    assert!(crate_file("test_captures/stdin") == sample.input);
-    assert!(crate_file("test_captures/stdout") == sample.output.as_bytes());
+    let stored = ["stdin", "stdout"].map(|name| crate_file(&format!("test_captures/{name}")));
+    let mut refused = stored[1]
+        .windows(10)
+        .filter(|line| line == b"refused 9\n")
+        .count();
+    let is_older = !captures(&stored[0]).iter().any(|file| {
+        Capture::read(file).is_ok_and(|of| of.events.iter().any(|event| event.kind == VCOM_RULE))
+    });
+    let mut output = String::new();
+    for file in captures(&stored[0]) {
+        output += &match is_older && has_rules(file) {
+            true => run::refused(Refusal::BadEvent),
+            false => run::run(file),
+        };
+        refused -= usize::from(output.ends_with("refused 9\n"));
+    }
+    assert_eq!(refused, 0);
+    assert!(stored[1] == output.as_bytes());
+    let written = replays::sample(1, 344);
+    assert!(is_older || stored[0] == written.input);
+    assert!(
+        captures(&written.input)
+            .iter()
+            .filter(|file| has_rules(file))
+            .count()
+            > 100
+    );
 }
 
 /// The graymap's bytes are the greys that `lines` prints.
@@ -135,10 +182,11 @@ fn a_refresh_that_has_ended_is_not_cut() {
 #[test]
 fn the_stored_batch_is_the_written_one() {
     let directory = std::env::temp_dir().join(format!("jobs-{}", std::process::id()));
-    jobs::write(&directory).expect("it can be written");
-    for name in ["stdin", "stdout"] {
+    let stored = ["stdin", "stdout"].map(|name| crate_file(&format!("jollanqe/{name}")));
+    let ruled = String::from_utf8_lossy(&stored[0]).contains("rule-2-repeats");
+    jobs::write(&directory, ruled).expect("it can be written");
+    for (name, stored) in ["stdin", "stdout"].iter().zip(stored) {
         let written = std::fs::read(directory.join(name)).expect("it was written");
-        let stored = crate_file(&format!("jollanqe/{name}"));
         assert!(stored.starts_with(&written), "{name}");
     }
     std::fs::remove_dir_all(directory).expect("it is ours");

@@ -134,7 +134,7 @@ fn a_third_of_the_seeds_has_a_rate() {
     let mut rated = 0;
     for seed in 1..=3_000 {
         match rate::board(seed) {
-            None => assert!(generate::make(seed) == generate::plain(seed), "{seed}"),
+            None => assert!(generate::rated(seed) == generate::plain(seed), "{seed}"),
             Some(_) => rated += 1,
         }
         let plain = Capture::salvage(&generate::plain(seed));

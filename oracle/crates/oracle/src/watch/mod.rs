@@ -2,8 +2,9 @@
 
 mod items;
 mod refresh;
+mod rules;
 
-use chips::uc8253::Uc8253;
+use crate::chip::Chip;
 
 use crate::capture::{self, Capture, Configuration, Event};
 use crate::registers::Registers;
@@ -16,6 +17,7 @@ pub use items::{
     WRAPPING_COUNT,
 };
 use refresh::Running;
+use rules::Rules;
 
 const READS_TO_COUNT: usize = 3;
 const TABLES: [&str; 5] = [
@@ -39,11 +41,12 @@ struct Sent {
 
 struct Watch<'a> {
     of: &'a Configuration,
-    chip: Uc8253,
+    chip: Chip,
     facts: Facts,
     registers: Registers,
     sent: Option<Sent>,
     running: Option<Running>,
+    rules: Rules,
     clock: u64,
     in_reset: bool,
     slept: bool,
@@ -63,6 +66,7 @@ pub fn facts(capture: &Capture) -> Facts {
         registers: Registers::reset(of.variant),
         sent: None,
         running: None,
+        rules: Rules::default(),
         clock: 0,
         in_reset: false,
         slept: false,
@@ -100,6 +104,8 @@ impl Watch<'_> {
         facts.note_if(of.full_swing == i64::MAX as u64, "swing 2^63 - 1");
         facts.note_if(of.periods.contains(&1), "a period 1");
         facts.note_if(of.periods.contains(&u64::MAX), "a period 2^64 - 1");
+        let second = of.flag(capture::VCOM_BY_FRAME);
+        facts.note_if(second, "rule 2 from making on");
         facts.value("variants", of.variant);
         facts.value("flags", of.flags);
         facts.value("initial greys", of.initial_grey);
@@ -118,6 +124,7 @@ impl Watch<'_> {
         let was_powered = self.chip.is_powered();
         let image = self.chip.panel_image();
         let before = (image.generation, image.pixels.clone());
+        let generation = before.0;
         let answer = run::step(&mut self.chip, event);
         let kinds = self.kinds();
         self.power(was_powered, event);
@@ -129,6 +136,9 @@ impl Watch<'_> {
             capture::RESET => self.reset(event.value == 1),
             _ => {}
         }
+        let ended = self.chip.panel_image().generation != generation;
+        self.rules
+            .met(&mut self.facts, event, &self.chip, self.in_reset, ended);
         let end = self.chip.next_deadline().map(|end| end.get());
         let held = end == Some(u64::MAX);
         self.facts.note_if(held, "operation's end held at 2^64 - 1");
@@ -195,7 +205,10 @@ impl Watch<'_> {
         }
         let running = self.running.take().expect("a refresh ran");
         let (interrupted, at) = (image.interrupted, image.at.get());
+        let inner = self.facts.inner;
         running.ended(&mut self.facts, interrupted, at, self.clock);
+        let inner = self.facts.inner > inner;
+        self.rules.ended(&mut self.facts, inner);
     }
 
     fn command(&mut self, command: u8, kinds: &[u64]) {
@@ -244,6 +257,9 @@ impl Watch<'_> {
             .note_if(copied, "refresh after one that copied NEW to OLD");
         let running = Running::new(self.of, &self.registers, self.clock, end.get());
         running.started(&mut self.facts, self.of, &self.registers);
+        let one_timing = !self.registers.vcom_counts_differ();
+        self.rules
+            .started(&mut self.facts, self.chip.rule(), one_timing);
         self.running = Some(running);
     }
 
