@@ -12,10 +12,9 @@ returns c =
     let g = c .before .before .before .before .before .before .before .before .args in
     let t = c .before .before .before .before .before .before .taken in
     let a = c .before .before .before .before .wide-picture in
-    let q : ask.Ask = ask.askPicture (g .top) (g .wide .now) in
-    (
+    let q : ask.Ask = ask.askPicture (g .top) (g .wide .now) in (
       λ b. asked-is q (g .chip) _ (withStates (g .states .now) b) (t .ensures)
-      (λ i. record { value = 0; refused = c .before .number .ensures i; known = c .none .ensures i }) (a .ensures b .0) (a .ensures b .1),
+          (λ i. record { value = 0; refused = c .before .number .ensures i; known = c .none .ensures i }) (a .ensures b .0) (a .ensures b .1),
       λ b. of-taken (ask.answered q) _ (g .chip) (withStates (g .states .now) b) (t .ensures) (a .ensures b .1),
     )
 
