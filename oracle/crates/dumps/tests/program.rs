@@ -1,11 +1,9 @@
 //! The comparison held to itself: `dumps` stands in for `jollanqe`, sound and with faults.
 
 use std::fs;
-use std::io::Write;
 use std::os::unix::fs::PermissionsExt;
 use std::path::{Path, PathBuf};
-use std::process::{Command, Output, Stdio};
-use std::thread;
+use std::process::{Command, Output};
 
 const DUMPS: &str = env!("CARGO_BIN_EXE_dumps");
 

@@ -3,6 +3,7 @@
 use std::collections::HashSet;
 use std::path::Path;
 
+use crate::judge::Form;
 use crate::{cases, judge, real};
 
 /// The reader gives the answers that were written down.
