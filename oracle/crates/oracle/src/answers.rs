@@ -49,9 +49,10 @@ pub fn tables(program: &Path, count: u64, seed: u64) -> io::Result<bool> {
         let text = answers(seed, 0, 0, 0, Some(rows))
             + &table(&mut Rng::new(seed), WIDE_HEAD, rows, glass::wide_row);
         let said = against::output(program, text.as_bytes())?;
-        let must = [0, 0, 0, rows, rows].iter().zip(TABLES);
+        let counts = [0, 0, 0, rows, rows];
+        let must = TABLES.iter().zip(counts);
         let must: String = must
-            .map(|(rows, name)| format!("{name} {rows} equal 0 different\n"))
+            .map(|(name, rows)| format!("{name} {rows} equal 0 different\n"))
             .collect();
         if said != must.as_bytes() {
             against::keep(&[("stdin", text.as_bytes()), ("stdout", &said)])?;
