@@ -761,7 +761,7 @@ static void any_events(uint32_t count) {
     }
     refreshes += p.record.image.generation;
     give_up(p.lent);
-    must(refreshes > count / 200, "pictures are drawn");
+    must(refreshes > count / 1000, "pictures are drawn");
     printf("ok: %u runs of any events: all taken, pictures drawn: %llu\n", count, (unsigned long long)refreshes);
 }
 
