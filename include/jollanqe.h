@@ -17,7 +17,8 @@
  *   - x86-64 Linux (System V calls), and 32 KB of stack (26 KB were measured).
  *
  * WHAT IS REFUSED. By a number, enum jollanqe_refusal, in `refused`; 0 is a call that was taken. Making
- * tests 1, 2, 3, 4, 5 in this order; a later call 6, 5, 7; a question 6, then 5 for what it is lent.
+ * tests 1, 2, 3, 4, 13, 5 in this order; a later call 6, 5, 7; a question 6, then 5 for what it is lent, and
+ * jollanqe_picture then the states by 7.
  *
  * WHAT IS GIVEN BACK WHERE A CALL IS REFUSED. Making: a record of zeros. A later call: the record that it
  * was handed, so that a host may always keep what comes back. No entry of a buffer is changed. A refused
@@ -76,7 +77,7 @@ enum jollanqe_refusal {
     JOLLANQE_FRAME_PERIOD = 4,     /* one of the 32 periods is 0 */
     JOLLANQE_BUFFER_LENGTH = 5,    /* a lent buffer has not its length */
     JOLLANQE_FOREIGN_RECORD = 6,   /* a record that no call gives: docs/FORMAT.md has the ranges */
-    JOLLANQE_FOREIGN_CONTENTS = 7, /* the call ends a refresh; a state or a table number is out of range */
+    JOLLANQE_FOREIGN_CONTENTS = 7, /* a state or a table number is out of range, as a refresh ends or for a picture */
     JOLLANQE_BROKEN_CAPTURE = 8,   /* the file's length or its trailer */
     JOLLANQE_BAD_EVENT = 9,        /* a variant, flag, event kind or value that is not listed */
     JOLLANQE_TOO_MANY_PIXELS = 10, /* more than the program has room for */
@@ -348,7 +349,7 @@ JOLLANQE_HOLDS(sizeof(jollanqe_asked) == 16 && offsetof(jollanqe_asked, known) =
 /* ---- the calls ---- */
 
 /*
- * The six buffers, which every call but the last four is lent after its own arguments:
+ * The six buffers, which every call but the last five is lent after its own arguments:
  *   old_plane, new_plane  60,000 bytes each: 600 rows of 100 bytes, the first column in a byte's highest bit
  *   states                sources x gates: where each pixel stands, 0 black to the full swing
  *   numbers               sources x gates: the table that drives each pixel, 1 to 4, or 255
@@ -436,6 +437,19 @@ jollanqe_asked jollanqe_deadline(jollanqe_record chip);
 
 /* A pixel of the lent plane, the old one or the new: 0 or 1; not known past column 799 or row 599. */
 jollanqe_asked jollanqe_bit(jollanqe_record chip, const uint8_t *plane, size_t plane_length, uint16_t x, uint16_t y);
+
+/*
+ * The picture at a top of its own: `wide`, sources x gates entries, becomes the greys of the states at that top,
+ * 0 black to `top` white, rows from the top left. `top` is 1 to 65,535; 0 stands for 255.
+ *   - Each grey is state x top / full swing to the nearest, halves up.
+ *   - It is drawn from the states, not from the 8-bit picture, and whether a refresh has ended or not. After one has,
+ *     the greys at top 255 are those of `picture`; before the first, `picture` is the initial grey, and the grey
+ *     of the state may be another.
+ *   - Refused by 6, by 5 for the length of the states or of `wide`, by 7 for a state outside 0 .. full swing: then no
+ *     entry of `wide` changes. Taken, it is known, and `value` is 0.
+ */
+jollanqe_asked jollanqe_picture(jollanqe_record chip, const int64_t *states, size_t states_length, uint16_t *wide,
+                                size_t wide_length, uint16_t top);
 
 /* ---- beside the library ---- */
 

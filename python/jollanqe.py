@@ -321,6 +321,7 @@ _CALLS = {
     "jollanqe_busy": (Asked, [Record, c_uint64]),
     "jollanqe_deadline": (Asked, [Record]),
     "jollanqe_bit": (Asked, [Record] + _slice("B") + [c_uint16, c_uint16]),
+    "jollanqe_picture": (Asked, [Record] + _slice("q") + _slice("H") + [c_uint16]),
 }
 
 
@@ -687,6 +688,20 @@ class Panel:
         asked = _held(_library.jollanqe_bit(self._record, *lent, *place))
         return bool(asked.value) if asked.known else None
 
+    def picture_at(self, top, wide=None):
+        """The picture at a top of its own, 0 black to `top` white; a top of 0 stands for 255.
+
+        The greys come as a list, or go into `wide` where it is handed in: a writable buffer of sources x gates
+        entries of 16 bits, such as an array.array('H'). They are drawn from the states: before the first
+        refresh has ended, at top 255 too, they may be others than `picture` has.
+        """
+        top = _number(top, 65_535, "top")
+        lent = _Slice("H", bytearray(2 * len(self.states)) if wide is None else wide, "wide")
+        _apart([*self._slices, lent])
+        with self._lock:
+            _held(_library.jollanqe_picture(self._record, *self._slices[2].lent, *lent.lent, top))
+        return list(lent.array) if wide is None else None
+
     # -- what is shown --
 
     old = property(lambda self: self._slices[0].array, doc="The plane that 10 (DTM1) writes.")
@@ -740,10 +755,16 @@ class Panel:
         start = _number(y, 65_535, "row") * width
         return bytes(self.picture[start : start + width])
 
-    def graymap(self):
-        """The last picture as a binary graymap (Netpbm P5)."""
+    def graymap(self, top=None):
+        """The last picture as a binary graymap (Netpbm P5); with a top, `picture_at` it: its maxval is the
+        top, and a pixel has a byte up to 255, else two, the higher first."""
         image = self._record.image
-        return b"P5\n%d %d\n255\n" % (image.width, image.height) + bytes(self.picture)
+        if top is None:
+            return b"P5\n%d %d\n255\n" % (image.width, image.height) + bytes(self.picture)
+        greys = self.picture_at(top)
+        maxval = top or 255
+        samples = bytes(greys) if maxval <= 255 else struct.pack(f">{len(greys)}H", *greys)
+        return b"P5\n%d %d\n%d\n" % (image.width, image.height, maxval) + samples
 
 
 def _shows():

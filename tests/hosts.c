@@ -220,11 +220,17 @@ static void refused_by(uint8_t number, jollanqe_record record, jollanqe_buffers 
 static void asked_by(uint8_t number, jollanqe_record record, jollanqe_buffers lent) {
     jollanqe_given taken = jollanqe_take(record, lent.rows, lent.rows_length);
     must(taken.refused == number && taken.answer == 0 && same_records(&taken.chip, &record), "a refused taking");
+    uint16_t *wide = room(PIXELS, sizeof *wide);
     jollanqe_asked asked[] = {jollanqe_busy(record, 150), jollanqe_deadline(record),
-                              jollanqe_bit(record, lent.old_plane, lent.old_length, 0, 0)};
-    for (int i = 0; i < 3; i++) {
+                              jollanqe_bit(record, lent.old_plane, lent.old_length, 0, 0),
+                              jollanqe_picture(record, lent.states, lent.states_length, wide, PIXELS, 65535)};
+    for (int i = 0; i < 4; i++) {
         must(asked[i].refused == number && !asked[i].known && asked[i].value == 0, "a refused question");
     }
+    for (size_t i = 0; i < PIXELS; i++) {
+        must(wide[i] == 0, "a refused picture changes no entry");
+    }
+    free(wide);
 }
 
 /* ---- what is refused ---- */
@@ -352,6 +358,97 @@ static void foreign_contents(void) {
     }
     give_up(p.lent);
     shown("a state or a table number out of range: the call that ends the refresh is refused by 7, no other");
+}
+
+/* ---- pictures at tops ---- */
+
+enum { UNTOUCHED = 0xABCD };
+
+/* Asks for a picture of so many entries by this number; a refused one changes none of them. */
+static uint16_t *pictured(uint8_t number, panel p, size_t length, uint16_t top) {
+    uint16_t *wide = room(length, sizeof *wide);
+    for (size_t i = 0; i < length; i++) {
+        wide[i] = UNTOUCHED;
+    }
+    jollanqe_buffers before = copied(p.lent);
+    jollanqe_asked asked = jollanqe_picture(p.record, p.lent.states, p.lent.states_length, wide, length, top);
+    must(asked.refused == number && asked.known == (number == 0) && asked.value == 0, "a picture at a top");
+    for (size_t i = 0; number != 0 && i < length; i++) {
+        must(wide[i] == UNTOUCHED, "a refused picture changes no entry");
+    }
+    must(same_buffers(before, p.lent), "a picture changes no other buffer");
+    give_up(before);
+    return wide;
+}
+
+static void pictures_refused(void) {
+    static const int64_t foreign[] = {-1, SWING + 1, INT64_MIN, INT64_MAX};
+    static const size_t wrong[] = {0, PIXELS - 1, PIXELS + 1};
+    static const jollanqe_record zeros;
+    panel p = refreshing();
+    for (int i = 0; i < 3; i++) {
+        size_t length[BUFFERS];
+        memcpy(length, fitting, sizeof length);
+        length[2] = wrong[i];
+        panel other = {p.record, lend(length)};
+        free(pictured(JOLLANQE_BUFFER_LENGTH, p, wrong[i], 255));
+        free(pictured(JOLLANQE_BUFFER_LENGTH, other, PIXELS, 255));
+        other.record = zeros;
+        free(pictured(JOLLANQE_FOREIGN_RECORD, other, wrong[i], 255));
+        give_up(other.lent);
+    }
+    for (int i = 0; i < 4; i++) {
+        int64_t *state = p.lent.states + (i % 2 ? 0 : PIXELS - 1), kept = *state;
+        *state = foreign[i];
+        free(pictured(JOLLANQE_FOREIGN_CONTENTS, p, PIXELS, 65535));
+        free(pictured(JOLLANQE_BUFFER_LENGTH, p, PIXELS + 1, 65535));
+        *state = kept;
+    }
+    memset(p.lent.numbers, 0, PIXELS);
+    free(pictured(0, p, PIXELS, 65535));
+    give_up(p.lent);
+    shown("a picture at a top: refused by 6, 5 for either length, 7 for a state alone, no entry changed");
+}
+
+/* The greys are those of the states, and those of the picture at 255 once a refresh has ended. */
+static void pictures_drawn(void) {
+    static const uint16_t tops[] = {1, 2, 255, 256, 40000, 65535};
+    panel p = refreshing();
+    keep(&p, jollanqe_advance(p.record, 3200, JOLLANQE_LENT(p.lent)));
+    uint16_t *at_0 = pictured(0, p, PIXELS, 0), *at_255 = pictured(0, p, PIXELS, 255);
+    for (size_t i = 0; i < PIXELS; i++) {
+        must(at_0[i] == p.lent.picture[i] && at_255[i] == at_0[i], "at 255, and at 0, it is the picture");
+        p.lent.states[i] = (int64_t)(i * SWING / (PIXELS - 1)) - (int64_t)(i % 2);
+    }
+    free(at_0);
+    free(at_255);
+    p.lent.states[0] = 0;
+    for (size_t i = 0; i < sizeof tops / sizeof *tops; i++) {
+        uint16_t *wide = pictured(0, p, PIXELS, tops[i]);
+        for (size_t j = 0; j < PIXELS; j++) {
+            uint64_t doubled = 2 * (uint64_t)p.lent.states[j] * tops[i];
+            must(wide[j] == (doubled + SWING) / (2 * SWING), "state x top / swing, halves up");
+        }
+        free(wide);
+    }
+    give_up(p.lent);
+    shown("a picture at a top: the greys of the states; at 255 and at 0 those of the picture after a refresh");
+}
+
+/* Right after making the picture is the initial grey: 200 is state 2 of a swing of 3, whose grey is 170. */
+static void pictures_at_making(void) {
+    uint8_t file[FILE_BYTES];
+    write_file(file, 0);
+    file[6] = 200;
+    put(file + 8, 3, 8);
+    jollanqe_buffers lent = lend(fitting);
+    panel p = {jollanqe_make(file, sizeof file, JOLLANQE_LENT(lent)).chip, lent};
+    uint16_t *wide = pictured(0, p, PIXELS, 255), *wider = pictured(0, p, PIXELS, 65535);
+    must(lent.states[0] == 2 && lent.picture[0] == 200 && wide[0] == 170 && wider[0] == 43690, "two thirds");
+    free(wide);
+    free(wider);
+    give_up(lent);
+    shown("a picture at a top before any refresh: of the states, where the 8-bit picture is the initial grey");
 }
 
 /* ---- runs ---- */
@@ -664,7 +761,7 @@ static void any_events(uint32_t count) {
     }
     refreshes += p.record.image.generation;
     give_up(p.lent);
-    must(refreshes > count / 200, "pictures are drawn");
+    must(refreshes > count / 1000, "pictures are drawn");
     printf("ok: %u runs of any events: all taken, pictures drawn: %llu\n", count, (unsigned long long)refreshes);
 }
 
@@ -684,6 +781,9 @@ int main(int count, char **arguments) {
     lengths();
     foreign_records();
     foreign_contents();
+    pictures_refused();
+    pictures_drawn();
+    pictures_at_making();
     ragged_events();
     unlisted_kinds();
     answers();

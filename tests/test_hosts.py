@@ -167,6 +167,33 @@ class Example(unittest.TestCase):
         self.assertEqual([self.drawn(SMALL, before=True), self.drawn(by_frame, before=False)], [96, 159])
         self.assertEqual([self.drawn(SMALL, under_way=True), self.drawn(by_frame, under_way=False)], [159, 96])
 
+    def test_a_picture_at_a_top(self):
+        panel = refreshing()
+        panel.advance(3_100)
+        for top in (0, 255):
+            self.assertEqual(panel.picture_at(top), list(panel.picture))
+            self.assertEqual(panel.graymap(top), panel.graymap())
+        self.assertEqual(panel.graymap(65_535), b"P5\n8 1\n65535\n" + b"\x80\0" * 4 + bytes(8))
+        self.assertEqual(panel.graymap(1), b"P5\n8 1\n1\n" + b"\1" * 4 + bytes(4))
+        panel.states[:] = [0, 1, 213, 214, 9_999_999, SWING // 2, SWING - 1, SWING]
+        before = everything(panel)
+        for top in (1, 2, 254, 255, 256, 4_095, 65_534, 65_535):
+            greys = [(2 * state * top + SWING) // (2 * SWING) for state in panel.states]
+            self.assertEqual(panel.picture_at(top), greys)
+            wide = array.array("H", [7] * 8)
+            self.assertIsNone(panel.picture_at(top, wide))
+            self.assertEqual(list(wide), greys)
+        self.assertEqual(everything(panel), before)
+
+    def test_a_picture_at_a_top_right_after_making(self):
+        for swing in (3, SWING, 2**62 + 1, 2**63 - 1):
+            panel = Panel(replace(SMALL, full_swing=swing, initial_grey=200))
+            self.assertEqual(list(panel.picture), [200] * 8)
+            for top in (255, 65_535):
+                grey = (2 * panel.states[0] * top + swing) // (2 * swing)
+                self.assertEqual(panel.picture_at(top), [grey] * 8)
+                self.assertTrue(swing > 3 or grey == {255: 170, 65_535: 43_690}[top])
+
     def test_threads_take_turns(self):
         panel = Panel(SMALL)
         work = [threading.Thread(target=lambda: [panel.command(0, 0xFF) for _ in range(400)]) for _ in range(5)]
@@ -306,7 +333,8 @@ class Refusals(unittest.TestCase):
         for record in (bytes(size), full):
             panel.record = record
             self.each_refused(6, panel)
-            for question in (panel.take, panel.deadline, lambda: panel.busy(0), lambda: panel.bit("old", 0, 0)):
+            bit, picture = lambda: panel.bit("old", 0, 0), lambda: panel.picture_at(255)
+            for question in (panel.take, panel.deadline, lambda: panel.busy(0), bit, picture):
                 self.refused(6, question)
 
     def test_foreign_contents_7(self):
@@ -315,6 +343,28 @@ class Refusals(unittest.TestCase):
             getattr(panel, name)[7] = wrong
             panel.advance(3_099)
             self.each_refused(7, panel)
+
+    def test_a_picture_at_a_top_5_and_7(self):
+        panel = refreshing()
+        for length in (0, 7, 9):
+            wide = array.array("H", [7] * length)
+            self.refused(5, lambda: panel.picture_at(65_535, wide))
+            self.assertEqual(list(wide), [7] * length)
+        for at, wrong in [(0, -1), (7, SWING + 1), (3, -(2**63)), (3, 2**63 - 1)]:
+            panel = refreshing()
+            panel.states[at] = wrong
+            wide = array.array("H", [7] * 8)
+            self.refused(7, lambda: panel.picture_at(65_535, wide))
+            self.assertEqual(list(wide), [7] * 8)
+            self.refused(5, lambda: panel.picture_at(65_535, array.array("H", [7] * 9)))
+        panel = refreshing()
+        panel.numbers[0] = 9
+        self.assertEqual(panel.picture_at(65_535), [0] * 8)
+        record = panel.record
+        record.panel.sources = 16
+        panel.record = record
+        self.refused(5, lambda: panel.picture_at(255))
+        self.refused(5, lambda: panel.picture_at(255, array.array("H", [0] * 16)))
 
     def test_a_run_that_is_refused_in_part(self):
         panel = refreshing()
@@ -360,6 +410,11 @@ class Seen(unittest.TestCase):
             lambda: panel.busy(-1),
             lambda: panel.bit("old", 65_536, 0),
             lambda: panel.bit("older", 0, 0),
+            lambda: panel.picture_at(-1),
+            lambda: panel.picture_at(65_536),
+            lambda: panel.picture_at(255, bytes(16)),
+            lambda: panel.picture_at(255, bytearray(15)),
+            lambda: panel.picture_at(255, panel.states),
             lambda: Panel(replace(SMALL, sources=-8)),
             lambda: Panel(replace(SMALL, gates=65_536)),
             lambda: Panel(replace(SMALL, ambient=128)),
@@ -371,6 +426,8 @@ class Seen(unittest.TestCase):
         for call in (
             lambda: panel.command(0.5, 0),
             lambda: panel.data(0, "a"),
+            lambda: panel.picture_at("white"),
+            lambda: panel.picture_at(255, [0] * 8),
             lambda: panel.vcom_rule(0, 1),
             lambda: panel.vcom_rule(0, 2),
             lambda: panel.send(0, 0x10, 5),

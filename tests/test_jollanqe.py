@@ -1,8 +1,8 @@
 #!/usr/bin/env python3
-"""jollanqe beside other readers, and what a person can get wrong. PNG files of every shape are read back by Python's
-zlib, and by pngcheck and netpbm where they are installed; empty, cut and random files, folders, closed streams, full
-disks, readers that go away, words that are empty or too long. Run by tools/check, after jollanqe is built;
-JOLLANQE_PROGRAM names another program."""
+"""jollanqe beside other readers, and what a person can get wrong. PNG files of every shape, of 8 and of 16 bits, are
+read back by Python's zlib, and by pngcheck and netpbm where they are installed; pictures at tops by exact arithmetic;
+empty, cut and random files, folders, closed streams, full disks, readers that go away, words that are empty or too
+long. Run by tools/check, after jollanqe is built; JOLLANQE_PROGRAM names another program."""
 
 import os
 import random
@@ -19,18 +19,19 @@ sys.dont_write_bytecode = True
 ROOT = Path(__file__).resolve().parent.parent
 PROGRAM = os.path.abspath(os.environ.get("JOLLANQE_PROGRAM", ROOT / "target" / "bin" / "jollanqe"))
 COMMAND, DATA, ADVANCE = 1, 2, 5
+SWING = 28_000_000
 
 
 def send(time, command, *data):
     return [(time, COMMAND, command)] + [(time, DATA, byte) for byte in data]
 
 
-def capture(sources=8, gates=1, grey=0):
-    """The worked example of docs/FORMAT.md, on a panel of any size and grey."""
+def capture(sources=8, gates=1, grey=0, swing=SWING):
+    """The worked example of docs/FORMAT.md, on a panel of any size, grey and swing."""
     events = send(0, 0x00, 0x3F) + send(0, 0x04) + send(100, 0x22, 0x80, 1, 0, 0, 0, 1)
     events += send(100, 0x13, 0xF0) + send(100, 0x12) + [(3_100, ADVANCE, 0)]
     body = b"".join(struct.pack("<QBB", *event) for event in events)
-    config = struct.pack("<BBHHBB38Q", 0, 4, sources, gates, grey, 0, 28_000_000, 100, 0, 0, 0, 0, *[1_000] * 32)
+    config = struct.pack("<BBHHBB38Q", 0, 4, sources, gates, grey, 0, swing, 100, 0, 0, 0, 0, *[1_000] * 32)
     return body + config + struct.pack("<II", len(body), len(events))
 
 
@@ -39,8 +40,8 @@ def rated(file, rate):
     return file[:-8] + struct.pack("<Q", rate) + file[-8:]
 
 
-def png(data):
-    """Width, height and grey pixels of a PNG file of 8 bits a pixel; every sum in it is tested."""
+def png(data, depth=8):
+    """Width, height and samples of a grey PNG file of so many bits a pixel; every sum in it is tested."""
     assert data[:8] == b"\x89PNG\r\n\x1a\n"
     at, head, stream, end = 8, None, b"", False
     while at < len(data):
@@ -55,15 +56,24 @@ def png(data):
         elif kind == b"IEND":
             end = True
     width, height, *rest = head
-    assert rest == [8, 0, 0, 0, 0] and end and at == len(data)
-    rows = zlib.decompress(stream)
-    assert len(rows) == height * (width + 1)
-    pixels = b""
+    assert rest == [depth, 0, 0, 0, 0] and end and at == len(data)
+    rows, length = zlib.decompress(stream), 1 + width * depth // 8
+    assert len(rows) == height * length
+    samples = b""
     for y in range(height):
-        row = rows[y * (width + 1) : (y + 1) * (width + 1)]
+        row = rows[y * length : (y + 1) * length]
         assert row[0] == 0
-        pixels += row[1:]
-    return width, height, pixels
+        samples += row[1:]
+    return width, height, samples
+
+
+def samples(greys, top):
+    """Greys as a graymap or a PNG file has them: a byte each up to a top of 255, else two, the higher first."""
+    return bytes(greys) if top <= 255 else struct.pack(f">{len(greys)}H", *greys)
+
+
+def grey(state, top, swing=SWING):
+    return (2 * state * top + swing) // (2 * swing)
 
 
 class Folder(unittest.TestCase):
@@ -110,6 +120,104 @@ class Pictures(Folder):
         self.says(self.run_it("pictures", "good.capture", "made"), b"image 8 1 1 full 0 100 3100\n", b"")
         self.assertEqual((self.dir / "made" / "1.png").read_bytes(), self.run_it("png", "good.capture").stdout)
         self.assertEqual(png((self.dir / "made" / "1.png").read_bytes()), (8, 1, bytes([128] * 4 + [0] * 4)))
+
+
+class Tops(Folder):
+    """Pictures at a top of their own (2026-03)."""
+
+    def read_by_others(self, name, graymap, made):
+        """A PNG file by pngcheck and by netpbm, where they are installed; the graymap by netpbm."""
+        (self.dir / f"{name}.png").write_bytes(made)
+        (self.dir / f"{name}.pgm").write_bytes(graymap)
+        for words, wanted in (["pngcheck", "-q", f"{name}.png"], None), (["pngtopnm", f"{name}.png"], graymap), (["pamtopnm", f"{name}.pgm"], graymap):
+            if shutil.which(words[0]):
+                read = subprocess.run(words, cwd=self.dir, check=True, stdout=subprocess.PIPE)
+                self.assertIn(wanted, (None, read.stdout), words)
+
+    def test_the_worked_example(self):
+        for top, white in [(1, 1), (2, 2), (254, 254), (255, 255), (256, 256), (4_095, 4_095), (65_535, 65_535), (0, 255)]:
+            with self.subTest(top=top):
+                half = grey(SWING // 2, white)
+                wanted = b"P5\n8 1\n%d\n" % white + samples([half] * 4 + [0] * 4, white)
+                self.says(self.run_it("pgm", "good.capture", str(top)), wanted, b"")
+                self.says(self.run_it("pgm", "-", str(top), data=capture()), wanted, b"")
+                self.says(self.run_it(data=b"pgm good.capture %d > out.pgm\n" % top), b"", b"")
+                self.assertEqual((self.dir / "out.pgm").read_bytes(), wanted)
+        self.says(self.run_it("pgm", "good.capture", "255"), self.run_it("pgm", "good.capture").stdout, b"")
+        self.says(self.run_it("pgm", "good.capture", "000255"), self.run_it("pgm", "good.capture").stdout, b"")
+        for top in ("0", "255"):
+            self.says(self.run_it("png", "good.capture", top), self.run_it("png", "good.capture").stdout, b"")
+        made = self.run_it("png", "good.capture", "65535").stdout
+        self.assertEqual(png(made, 16), (8, 1, b"\x80\0" * 4 + bytes(8)))
+
+    def test_every_shape_by_other_readers(self):
+        shapes = [(1, 1), (1, 600), (800, 1), (7, 3), (9, 2), (127, 2), (128, 2), (129, 2), (792, 528), (800, 600)]
+        chance = random.Random(3)
+        shapes += [(chance.randint(1, 800), chance.randint(1, 600)) for _ in range(4)]
+        for width, height in shapes:
+            with self.subTest(width=width, height=height):
+                name, swing = f"{width}x{height}", SWING + chance.randrange(10**6)
+                (self.dir / f"{name}.capture").write_bytes(capture(width, height, 90, swing))
+                head = b"P5\n%d %d\n65535\n" % (width, height)
+                graymap = self.run_it("pgm", f"{name}.capture", "65535").stdout
+                self.assertTrue(graymap.startswith(head))
+                greys = struct.unpack(f">{width * height}H", graymap[len(head) :])
+                # the first four pixels go up from grey 90's state by half of the example's swing, the others stay
+                state, driven = 90 * swing // 255, min(4, width)
+                levels = [state + SWING // 2] * driven + [state] * (width * height - driven)
+                self.assertEqual(greys, tuple(grey(level, 65_535, swing) for level in levels))
+                made = self.run_it("png", f"{name}.capture", "65535")
+                self.assertEqual(made.stderr, b"")
+                self.assertEqual(png(made.stdout, 16), (width, height, graymap[len(head) :]))
+                self.read_by_others(name, graymap, made.stdout)
+                # the 8-bit picture is that at 255
+                plain = self.run_it("pgm", f"{name}.capture").stdout
+                self.says(self.run_it("pgm", f"{name}.capture", "255"), plain, b"")
+                self.says(self.run_it("png", f"{name}.capture", "255"), self.run_it("png", f"{name}.capture").stdout, b"")
+
+    def test_right_after_making(self):
+        """The picture is the initial grey, that at a top the states': 200 is two thirds of a swing of 3."""
+        file = capture(8, 2, 200, 3)
+        none = file[-320:-8] + bytes(8)
+        (self.dir / "made.capture").write_bytes(none)
+        self.says(self.run_it("pgm", "made.capture"), b"P5\n8 2\n255\n" + bytes([200] * 16), b"")
+        self.says(self.run_it("pgm", "made.capture", "255"), b"P5\n8 2\n255\n" + bytes([170] * 16), b"")
+        self.says(self.run_it("pgm", "made.capture", "65535"), b"P5\n8 2\n65535\n" + samples([43_690] * 16, 65_535), b"")
+        self.assertEqual(png(self.run_it("png", "made.capture").stdout), (8, 2, bytes([200] * 16)))
+        self.assertEqual(png(self.run_it("png", "made.capture", "0").stdout), (8, 2, bytes([170] * 16)))
+
+    def test_refused(self):
+        (self.dir / "bad.capture").write_bytes(capture()[:-1])
+        for words in (["pgm", "bad.capture", "65535"], ["png", "bad.capture", "255"], ["pgm", "bad.capture", "0"]):
+            self.says(self.run_it(*words), b"refused 8\n", b"bad.capture: refused 8: broken capture: ")
+        self.says(self.run_it(data=b"png bad.capture 65535 > out.png\n"), b"refused 8\n", b"bad.capture: ")
+        self.assertFalse((self.dir / "out.png").exists())
+        with open("/dev/full", "wb") as full:
+            for words in (["pgm", "good.capture", "65535"], ["png", "good.capture", "65535"]):
+                result = self.run_it(*words, stdout=full)
+                self.assertTrue(result.stderr.startswith(b"standard output: "), result.stderr)
+
+    def test_words(self):
+        no_top = b"jollanqe: a top is a number from 1 to 65,535, or 0, which stands for 255\n"
+        for top in ("65536", "65535.0", "-1", "+1", "white", "0x10", "1_000", "65,535", "99999999999999999999"):
+            for word in ("pgm", "png"):
+                with self.subTest(word=word, top=top):
+                    self.says(self.run_it(word, "good.capture", top), b"", no_top)
+                    self.says(self.run_it("vcd", "panel.config", "night.vcd", word, top), b"", no_top)
+        no_png = b"jollanqe: a PNG file's top is 255 or 65,535, since its white is no other: pgm takes every top\n"
+        for top in ("1", "254", "256", "65534"):
+            self.says(self.run_it("png", "good.capture", top), b"", no_png)
+            self.says(self.run_it("vcd", "panel.config", "night.vcd", "png", top), b"", no_png)
+            self.says(self.run_it(data=b"png good.capture %s > out.png\n" % top.encode()), b"", no_png)
+            self.assertFalse((self.dir / "out.png").exists())
+        for word in ("pgm", "png"):
+            wants = b"jollanqe: %s wants one file and at most a top, as in: jollanqe %s night.capture 65535\n" % ((word.encode(),) * 2)
+            for words in ([word], [word, "good.capture", "255", "255"]):
+                self.says(self.run_it(*words), b"", wants)
+        for word in ("lines", "cuts", "config"):
+            self.says(self.run_it(word, "good.capture", "255"), b"", b"jollanqe: %s wants one file" % word.encode())
+        self.says(self.run_it(data=b"pgm good.capture 255 > good.capture\n"), b"", b"jollanqe: an input would be written over")
+        self.assertEqual((self.dir / "good.capture").read_bytes(), capture())
 
 
 class Rates(Folder):
@@ -178,12 +286,14 @@ class Dumps(Folder):
 
     def test_the_same_as_a_capture(self):
         name = self.worked()
-        for form in ("lines", "pgm", "png"):
-            with self.subTest(form=form):
-                wanted = self.run_it(form, "good.capture").stdout
-                self.says(self.run_it("vcd", "panel.config", name, form), wanted, b"")
-                self.says(self.run_it("vcd", "panel.config", "-", form, data=(self.dir / name).read_bytes()), wanted, b"")
-                self.says(self.run_it(data=b"vcd panel.config %s %s > out\n" % (name.encode(), form.encode())), b"", b"")
+        for form, *top in (["lines"], ["pgm"], ["png"], ["pgm", "65535"], ["pgm", "0"], ["pgm", "7"], ["png", "255"], ["png", "65535"]):
+            with self.subTest(form=form, top=top):
+                wanted = self.run_it(form, "good.capture", *top).stdout
+                self.assertTrue(wanted)
+                self.says(self.run_it("vcd", "panel.config", name, form, *top), wanted, b"")
+                self.says(self.run_it("vcd", "panel.config", "-", form, *top, data=(self.dir / name).read_bytes()), wanted, b"")
+                words = " ".join([form, *top]).encode()
+                self.says(self.run_it(data=b"vcd panel.config %s %s > out\n" % (name.encode(), words)), b"", b"")
                 self.assertEqual((self.dir / "out").read_bytes(), wanted)
         self.says(self.run_it("vcd", "panel.config", name), self.run_it("lines", "good.capture").stdout, b"")
 
@@ -244,9 +354,9 @@ class Dumps(Folder):
 
     def test_words(self):
         name = self.worked()
-        for words in (["vcd"], ["vcd", "panel.config"], ["vcd", "panel.config", name, "gif"], ["vcd", "panel.config", name, "png", "x"]):
+        for words in ([], ["panel.config"], ["panel.config", name, "gif"], ["panel.config", name, "lines", "255"], ["panel.config", name, "pgm", "255", "x"]):
             with self.subTest(words=words):
-                self.says(self.run_it(*words), b"", b"jollanqe: vcd wants ")
+                self.says(self.run_it("vcd", *words), b"", b"jollanqe: vcd wants ")
         self.says(self.run_it("vcd", "-", "-"), b"", b"jollanqe: standard input can be one of the two files, not both\n")
         self.says(self.run_it("vcd", "panel.config", "missing"), b"", b"missing: ")
         self.says(self.run_it("vcd", "missing", name), b"", b"missing: ")

@@ -53,7 +53,7 @@ use Rattle.controller.specs.Reading.{drivenByte, readMore, missedBy, aft
 use Rattle.controller.specs.Reset.{cutBy, cut, cleared, loweredBy, raisedBy, edge, resetEdge}
 use Rattle.controller.specs.TurnedBack.{turnedBack}
 use Rattle.controller.specs.Calls.{called, takingRefused, takeCall}
-use Rattle.controller.specs.Ask.{Ask, command, datum, reading, advance, reset, vcomRule, taking, askBusy, askDeadline, askBit, askRow, didBy}
+use Rattle.controller.specs.Ask.{Ask, command, datum, reading, advance, reset, vcomRule, taking, askBusy, askDeadline, askBit, askRow, askPicture, didBy}
 use Rattle.controller.proofs.Keeps.{Kept, kept, kept-closed, kept-arrived, then, kept-command, kept-data, kept-reading, kept-edge}
 
 -- the record's clock is one of 1 GHz
@@ -202,6 +202,7 @@ timeOf (askBusy t) = t
 timeOf askDeadline = 0
 timeOf (askBit older x y) = 0
 timeOf (askRow y) = 0
+timeOf (askPicture top wide) = 0
 
 -- every call of demand 3's lists, of a record whose rate is 1 GHz; clock and time are 64-bit numbers. Its refusal and its answer take no
 -- conversion
@@ -221,6 +222,7 @@ did-same (askBusy t) w e h k = refl
 did-same askDeadline w e h k = refl
 did-same (askBit older x y) w e h k = refl
 did-same (askRow y) w e h k = refl
+did-same (askPicture top wide) w e h k = refl
 
 -- ---- a run of calls: each leaves the configuration, and the clock a 64-bit number
 -- what is left for the next call
@@ -255,3 +257,4 @@ ready (askBusy t) w k r = r
 ready askDeadline w k r = r
 ready (askBit older x y) w k r = r
 ready (askRow y) w k r = r
+ready (askPicture top wide) w k r = r

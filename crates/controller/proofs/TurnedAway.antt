@@ -4,7 +4,7 @@ use mathlib.Core.Bool.{false}
 use lib.Dec.{eqb}
 use Rattle.controller.specs.World.{World}
 use Rattle.controller.specs.Calls as calls
-use Rattle.controller.specs.Ask.{Ask, command, datum, reading, advance, reset, vcomRule, taking, askBusy, askDeadline, askBit, askRow}
+use Rattle.controller.specs.Ask.{Ask, command, datum, reading, advance, reset, vcomRule, taking, askBusy, askDeadline, askBit, askRow, askPicture}
 use Rattle.controller.specs.Ask.{did, refusedBy}
 
 pub did-no : (a : Ask) (w : World) → eqb (refusedBy a w) 0 ≡ false → did a w ≡ w
@@ -20,3 +20,4 @@ did-no (askBusy t) w e = refl
 did-no askDeadline w e = refl
 did-no (askBit older x y) w e = refl
 did-no (askRow y) w e = refl
+did-no (askPicture top wide) w e = refl

@@ -16,7 +16,7 @@ use Rattle.controller.specs.Reading as byte
 use Rattle.controller.specs.Reset.{resetEdge}
 use Rattle.controller.specs.TurnedBack.{turnedBack}
 use Rattle.controller.specs.Calls.{called, takingRefused, takeCall}
-use Rattle.controller.specs.Ask.{Ask, command, datum, reading, advance, reset, vcomRule, taking, askBusy, askDeadline, askBit, askRow}
+use Rattle.controller.specs.Ask.{Ask, command, datum, reading, advance, reset, vcomRule, taking, askBusy, askDeadline, askBit, askRow, askPicture}
 use Rattle.controller.specs.Ask.{did, refusedBy}
 use Rattle.controller.proofs.Keeps.{Kept, kept, kept-arrived, then, kept-command, kept-data, kept-reading, kept-edge}
 
@@ -47,6 +47,7 @@ rule-stays (askBusy t) w o = refl
 rule-stays askDeadline w o = refl
 rule-stays (askBit older x y) w o = refl
 rule-stays (askRow y) w o = refl
+rule-stays (askPicture top wide) w o = refl
 
 -- an accepted kind 6 sets it
 pub rule-set : (t : ℕ) (x : Bool) (w : World) → eqb (refusedBy (vcomRule t x) w) 0 ≡ true → byFrame (did (vcomRule t x) w) ≡ x

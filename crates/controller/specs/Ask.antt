@@ -3,6 +3,7 @@
 use mathlib.Core.Bool.{Bool, true, false}
 use mathlib.Core.List.{List}
 use Prim.Native.Nat.{ℕ}
+use lib.ListN.{length}
 use Rattle.base.specs.Pick.{pick}
 use Rattle.ram.specs.declared.Found.{Found}
 use Rattle.controller.specs.declared.Due.{Due}
@@ -13,7 +14,8 @@ use Rattle.controller.specs.Counting.{Counting, own}
 use Rattle.controller.specs.TurnedBack.{turnedBack}
 use Rattle.controller.specs.Calls as calls
 
--- times, command and data bytes, the reset line (true: asserted), VCOM's rule (true: rule 2), a plane (true: the old one), column and row
+-- times, command and data bytes, the reset line (true: asserted), VCOM's rule (true: rule 2), a plane (true: the old one), column and row;
+-- a top, and the 16-bit buffer as it is lent
 pub data Ask : Type 0 where
   command datum : ℕ → ℕ → Ask
   reading advance : ℕ → Ask
@@ -23,6 +25,7 @@ pub data Ask : Type 0 where
   askDeadline : Ask
   askBit : Bool → ℕ → ℕ → Ask
   askRow : ℕ → Ask
+  askPicture : ℕ → List ℕ → Ask
 
 -- what each call makes of a record and what is lent, by two conversions; a question gives back no record, and the last one stands
 abbrev pub didBy : (Uc8253 → Counting) → Ask → World → World
@@ -37,6 +40,7 @@ didBy clock (askBusy t) w = w
 didBy clock askDeadline w = w
 didBy clock (askBit older x y) w = w
 didBy clock (askRow y) w = w
+didBy clock (askPicture top buffer) w = w
 
 -- by those of the record's own clock
 abbrev pub did : Ask → World → World
@@ -55,9 +59,10 @@ refusedBy (askBusy t) w = calls.questionRefused (w .chip)
 refusedBy askDeadline w = calls.questionRefused (w .chip)
 refusedBy (askBit older x y) w = calls.bitRefused (w .chip) (pick older (w .lent .old) (w .lent .new))
 refusedBy (askRow y) w = calls.rowRefused (w .chip) (w .lent .picture)
+refusedBy (askPicture top buffer) w = calls.wideRefused (w .chip) (w .lent .states) (length buffer)
 
 -- what a call hands back besides the record: the byte of a read, how many rows were taken, whether the busy pin is low, the deadline,
--- a bit of the RAM, a part of the picture
+-- a bit of the RAM, a part of the picture, the 16-bit buffer as it is left
 pub data Answer : Type 0 where
   nothing : Answer
   byte : Read → Answer
@@ -66,6 +71,7 @@ pub data Answer : Type 0 where
   due : Due → Answer
   bit : Found → Answer
   part : List ℕ → Answer
+  wide : List ℕ → Answer
 
 abbrev pub answered : Ask → World → Answer
 answered (command t c) w = nothing
@@ -79,6 +85,7 @@ answered (askBusy t) w = low (calls.busyAnswer (w .chip) t)
 answered askDeadline w = due (calls.deadlineAnswer (w .chip))
 answered (askBit older x y) w = bit (calls.bitAnswer (w .chip) (pick older (w .lent .old) (w .lent .new)) x y)
 answered (askRow y) w = part (calls.rowAnswer (w .chip) (w .lent .picture) y)
+answered (askPicture top buffer) w = wide (calls.wideAnswer (w .chip) (w .lent .states) top buffer)
 
 -- the calls that may change a lent entry; taking the rows and the questions change none
 abbrev pub writes : Ask → Bool
@@ -93,3 +100,4 @@ writes (askBusy t) = false
 writes askDeadline = false
 writes (askBit older x y) = false
 writes (askRow y) = false
+writes (askPicture top buffer) = false

@@ -1,16 +1,18 @@
 -- The calls: refused first, with the record given back and no lent entry changed;
 -- else the clock, what has come to its end, and then the call's own.
-use mathlib.Core.Bool.{Bool, true, false}
+use mathlib.Core.Bool.{Bool, true, false, _&&_}
 use mathlib.Core.List.{List, []}
 use Prim.Native.Nat.{ℕ, _*_}
 use lib.Dec.{eqb, ltb}
 use lib.ListN.{length, take, drop, replicate}
-use lib.IntN.{pos}
+use lib.IntN.{ℤ, pos}
 use Rattle.base.specs.Pick.{pick}
 use Rattle.config.specs.declared.Uc8253Config.{Uc8253Config}
 use Rattle.config.specs.declared.Variant.the-variants as variant
 use Rattle.glass.specs.declared.RefreshKind.the-variants as shown
-use Rattle.glass.specs.Gray.{levelOf}
+use Rattle.glass.specs.Gray.{levelOf, topOf}
+use Rattle.pixels.specs.States.{everyState}
+use Rattle.pixels.specs.Draw.{drawnAt}
 use Rattle.registers.specs.declared.Registers.{Registers}
 use Rattle.registers.specs.Luts.{resetLuts}
 use Rattle.registers.specs.Reset.{resetOf}
@@ -111,6 +113,20 @@ rowAnswer p picture y =
     pick (eqb (rowRefused p picture) 0)
     (pick (ltb y (p .config .panel .gates)) (take (p .config .panel .sources) (drop (y * p .config .panel .sources) picture)) [])
     []
+
+-- the 16-bit picture at a top (2026-03): 6, then 5 for the states and the buffer, then the states by 7
+unfoldable pub wideRefused : Uc8253 → List ℤ → ℕ → ℕ
+wideRefused p states room =
+    let pixels = p .config .panel .sources * p .config .panel .gates in
+    pick (foreignRecord p) 6
+    (pick (eqb (length states) pixels && eqb room pixels)
+    (pick (everyState (p .config .optics .«full_swing») states) 0 7)
+    5)
+
+-- that buffer: each entry the grey of its state at the top, 0 standing for 255; a refused question leaves it
+unfoldable pub wideAnswer : Uc8253 → List ℤ → ℕ → List ℕ → List ℕ
+wideAnswer p states top wide =
+    pick (eqb (wideRefused p states (length wide)) 0) (drawnAt (topOf top) (p .config .optics .«full_swing») states wide) wide
 
 -- no table, no level, no period
 unfoldable pub noWaveform : Waveform

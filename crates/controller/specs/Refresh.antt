@@ -23,7 +23,7 @@ use Rattle.numbers.specs.Filled.{rowsFilled}
 use Rattle.numbers.specs.Number.{mappingOf, numberOf, someUndriven}
 use Rattle.pixels.specs.Lists.{beside}
 use Rattle.pixels.specs.Drive.{framesFor}
-use Rattle.pixels.specs.Draw.{drawn}
+use Rattle.pixels.specs.Draw.{drawnAt}
 use Rattle.controller.specs.declared.Operation.{Operation}
 use Rattle.controller.specs.declared.Refresh.{Refresh}
 use Rattle.controller.specs.declared.Uc8253.{Uc8253}
@@ -101,13 +101,13 @@ published kind interrupted at p = record {
   at = at;
 }
 
--- the states walk, and the picture is the grey of each
+-- the states walk, and the picture is the grey of each, at top 255
 unfoldable pub finished : (ℕ → List ℤ) → RefreshKind → Bool → ℕ → World → World
 finished frames kind interrupted at w =
     let swing = w .chip .config .optics .«full_swing» in
     let states = walked swing frames (w .lent .numbers) (w .lent .states) in
     world (withImage (published kind interrupted at (w .chip)) (w .chip))
-    (withPicture (drawn swing states (w .lent .picture)) (withStates states (w .lent)))
+    (withPicture (drawnAt 255 swing states (w .lent .picture)) (withStates states (w .lent)))
 
 -- the frames of a table in the refresh under way
 abbrev pub allFrames : Uc8253 → ℕ → List ℤ

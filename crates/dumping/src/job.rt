@@ -1,5 +1,6 @@
 // One job: the panel of a configuration after a dump.
 ghost use mathlib.Core.Path.{_≡_};
+ghost use Prim.Native.Nat.{_≤_};
 ghost use lib.ListN.{length};
 ghost use Rattle.controller.specs.Lent.{before, after};
 ghost use Rattle.dumping.specs.Played.{Ran};
@@ -13,16 +14,16 @@ use crate::writing::write;
 use base::Refusal;
 use capture::config_of;
 use capture::pixels;
+use controller::Uc8253;
 use files::Got;
 use files::is_input;
-use glass::PanelImage;
 use input::front;
 use libc::STDIN_FILENO;
 use libc::STDOUT_FILENO;
-use log::Log;
 use outcome::came_by;
 use output::Form;
 use output::Outcome;
+use shades::Tone;
 use uc8253::zeros;
 
 // The bytes of a configuration; and one more, so that a larger file is seen to be larger.
@@ -46,15 +47,26 @@ fn refuse(refused: Refusal) {
     }
 }
 
+// The lines, or the picture, at a top of its own or as it is.
+fn write_by(tone: Tone, fd: i32, p: Uc8253, states: &[i64], picture: &[u8], rows: &[u64]) -> bool {
+    let form = tone.form;
+    if tone.wide {
+        return shades::write(form, tone.top, fd, p, states);
+    }
+    let came = came_by(0);
+    let log = p.log;
+    let image = p.image;
+    let o = Outcome { came, log, image };
+    write(form, fd, o, picture, rows)
+}
+
 // The panel after a dump that is not turned back; its output is made only here.
-fn show(out: &[u8], form: Form, log: Log, image: PanelImage, picture: &[u8], rows: &[u64]) {
+fn show(out: &[u8], tone: Tone, p: Uc8253, states: &[i64], picture: &[u8], rows: &[u64]) {
     let fd = files::open(out);
     if fd < 0 {
         return;
     }
-    let came = came_by(0);
-    let o = Outcome { came, log, image };
-    let written = write(form, fd, o, picture, rows);
+    let written = write_by(tone, fd, p, states, picture, rows);
     files::close(out, fd, written);
 }
 
@@ -98,17 +110,17 @@ fn answer(
     name: &[u8],
     config: &[u8],
     why: &[u8],
-    form: Form,
+    tone: Tone,
     out: &[u8],
-    log: Log,
-    image: PanelImage,
+    p: Uc8253,
+    states: &[i64],
     picture: &[u8],
     rows: &[u64],
 ) {
     match came {
         Came::Judged(refused) => {
             if refused.none() {
-                show(out, form, log, image, picture, rows);
+                show(out, tone, p, states, picture, rows);
                 return;
             }
             turn_back(config_name, name, config, refused, why);
@@ -122,13 +134,20 @@ fn answer(
     }
 }
 
+// So many entries of those that there are.
+fn room(most: usize, have: usize) -> usize
+    ensures { λ r. ⌜ r ≤ have ⌝ }
+{
+    if most < have { most } else { have }
+}
+
 // A dump that is open.
 fn with_dump(
     config_name: &[u8],
     name: &[u8],
     config: &[u8],
     fd: i32,
-    form: Form,
+    tone: Tone,
     out: &[u8],
     chunk: &mut [u8],
     word: &mut [u8],
@@ -161,20 +180,19 @@ fn with_dump(
     );
     let came = d.came;
     let chip = d.chip;
-    let log = chip.log;
-    let image = chip.image;
     let why = front(&text, d.told);
-    let shown = front(picture, pixels(config_of(config)));
+    let count = pixels(config_of(config));
+    let shown = front(picture, count);
     answer(
         came,
         config_name,
         name,
         config,
         why,
-        form,
+        tone,
         out,
-        log,
-        image,
+        chip,
+        &states[..room(count, states.len())],
         shown,
         rows,
     );
@@ -187,7 +205,7 @@ fn with_kept(
     name: &[u8],
     config: &[u8],
     fd: i32,
-    form: Form,
+    tone: Tone,
     out: &[u8],
     chunk: &mut [u8],
     word: &mut [u8],
@@ -208,7 +226,7 @@ fn with_kept(
         name,
         config,
         fd,
-        form,
+        tone,
         out,
         chunk,
         word,
@@ -227,7 +245,7 @@ fn with_config(
     config_name: &[u8],
     name: &[u8],
     config: &[u8],
-    form: Form,
+    tone: Tone,
     out: &[u8],
     chunk: &mut [u8],
     word: &mut [u8],
@@ -252,7 +270,7 @@ fn with_config(
         name,
         config,
         fd,
-        form,
+        tone,
         out,
         chunk,
         word,
@@ -272,7 +290,7 @@ fn with_config(
 pub fn run(
     config_name: &[u8],
     name: &[u8],
-    form: Form,
+    tone: Tone,
     out: &[u8],
     chunk: &mut [u8],
     word: &mut [u8],
@@ -296,7 +314,7 @@ pub fn run(
                     config_name,
                     name,
                     c,
-                    form,
+                    tone,
                     out,
                     chunk,
                     word,

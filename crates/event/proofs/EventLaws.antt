@@ -16,7 +16,7 @@ use Rattle.base.proofs.Sorting.{Rest}
 use Rattle.controller.specs.World.{World}
 use Rattle.controller.specs.TurnedBack.{turnedBack}
 use Rattle.controller.specs.Calls.{commandCall, dataCall, readCall, readAnswer, resetCall, advanceCall, vcomCall}
-use Rattle.controller.specs.Ask.{Answer, nothing, byte, count, low, due, bit, part}
+use Rattle.controller.specs.Ask.{Answer, nothing, byte, count, low, due, bit, part, wide}
 use Rattle.controller.specs.Counting.{own}
 use Rattle.event.specs.declared.Event.{Event}
 use Rattle.capture.specs.Little.{little}
@@ -100,6 +100,7 @@ numberIn (low b) = 0
 numberIn (due d) = 0
 numberIn (bit f) = 0
 numberIn (part l) = 0
+numberIn (wide l) = 0
 
 -- ---- the bytes of an event
 pub event-past : (bytes : List ℕ) (i : ℕ) → length bytes / 10 < i → record { time = 0; kind = 0; value = 0 } ≡ eventAt bytes i

@@ -14,7 +14,7 @@ ghost use mathlib.Core.Bool.{true, false};
 ghost use Rattle.base.specs.RefusalNumbers.{refusalNumber};
 ghost use Rattle.capture.specs.Layout.{configIn};
 ghost use Rattle.controller.specs.World.{Buffers, world};
-ghost use Rattle.controller.specs.Setters.{withOld, withNew, withRows};
+ghost use Rattle.controller.specs.Setters.{withOld, withNew, withStates, withRows};
 ghost use Rattle.controller.specs.Calls.{made};
 ghost use Rattle.controller.specs.Ask as ask;
 ghost use Rattle.controller.specs.Lent.{before, after};
@@ -41,6 +41,7 @@ use uc8253::read_data;
 use uc8253::set_reset;
 use uc8253::set_vcom_rule;
 use uc8253::take_diagnostics;
+use uc8253::wide_picture;
 use uc8253::write_command;
 use uc8253::write_data;
 
@@ -338,6 +339,27 @@ pub extern "C" fn jollanqe_busy(chip: Handed, at: u64) -> Asked
     let refused = b.refused;
     Asked {
         value: b.busy as u64,
+        refused: refused.number(),
+        known: refused.none(),
+    }
+}
+
+// The picture of the states at a top, 0 standing for 255, into the lent buffer.
+#[no_mangle]
+pub extern "C" fn jollanqe_picture(
+    chip: Handed,
+    states: &[i64],
+    wide: &mut [u16],
+    top: u16,
+) -> Asked
+    ensures { λ r. ⌜ ((b : Buffers) → r ≡ rule.asked (ask.askPicture top (now (wide .entry))) chip (withStates (now (states .entry)) b)) ⌝ }
+    ensures { λ r. ⌜ ((b : Buffers) → ask.wide (now (wide .exit))
+        ≡ ask.answered (ask.askPicture top (now (wide .entry))) (world (recordTaken chip) (withStates (now (states .entry)) b))) ⌝ }
+{
+    let p = taken(chip);
+    let refused = wide_picture(p, states, wide, top);
+    Asked {
+        value: 0,
         refused: refused.number(),
         known: refused.none(),
     }

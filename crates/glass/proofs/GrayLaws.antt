@@ -1,14 +1,14 @@
--- The level by a split quotient, the least state of each grey, and the grey from a quotient and a remainder of 255 times the state.
+-- The level by a split quotient, the least state of each grey, and the grey from a quotient and a remainder of the top times the state.
 use mathlib.Core.Path.{_≡_, sym, ap, _∙_}
 use Prim.Native.Nat.{ℕ, zero, suc, _+_, _-_, _*_, _/_, _%_, _^_, _≤_, _<_}
-use native.Mathlib.Nat.{mul-zero, mul-assoc, mul-add, add-mul, mul-left-comm, div-add-mod, div-lt-iff-lt-mul, le-div-iff-mul-le, pow-succ'}
+use native.Mathlib.Nat.{zero-mul, mul-zero, mul-comm, mul-assoc, mul-add, add-mul, mul-left-comm, mul-le-mul-left, mul-le-mul-right}
+use native.Mathlib.Nat.{div-add-mod, div-lt-iff-lt-mul, le-div-iff-mul-le, div-div-eq-div-mul, div-eq-of-lt-le, pow-succ'}
 use native.Mathlib.Omega.{arith}
 use native.Mathlib.Decide.{decLe}
-use native.Mathlib.Numerals.{add-one}
-use lib.Pow.{pow-mono}
 use lib.Arith.{digits-div}
+use borrow.Author.Tests.{ne-eqb}
 use Rattle.glass.specs.declared.Sum.{Sum}
-use Rattle.glass.specs.Gray.{levelOf, grayOf, leastOf}
+use Rattle.glass.specs.Gray.{levelOf, topOf, grayAt, grayOf, leastOf}
 use Rattle.glass.specs.InnerDivision.{Carried}
 
 -- ---- the level by a split quotient
@@ -21,28 +21,56 @@ level-split g s = omega (arith, parted)
         ∙ add-mul (255 * (s / 255)) (s % 255) g
         ∙ ap (λ (n : ℕ). n + s % 255 * g) (mul-assoc 255 (s / 255) g)
 
--- ---- the grey before it is held to 255
-abbrev pub rounded : ℕ → ℕ → ℕ
-rounded x s = (2 * (x * 255) + s) / (2 * s)
+-- ---- the top that is meant
+pub top-some : (t : ℕ) → 0 < topOf t
+top-some zero = omega arith
+top-some (suc t) = rw (ne-eqb (suc t) 0 (λ e. absurd (omega arith))) (omega arith)
 
-pub rounded-fits : (x s : ℕ) → 0 < s → x ≤ s → rounded x s < 256
-rounded-fits x s h k = div-lt-iff-lt-mul {k = 2 * s} {x = 2 * (x * 255) + s} {y = 256} (omega arith) .1 (omega arith)
+pub top-same : (t : ℕ) → 0 < t → topOf t ≡ t
+top-same t h = rw (ne-eqb t 0 (λ e. absurd (omega arith)))
 
--- a state at white or past it, with some swing
-pub gray-white : (x s : ℕ) → 0 < s → s ≤ x → 255 ≡ grayOf x s
-gray-white x s h k = omega (arith, le-div-iff-mul-le {k = 2 * s} {x = 255} {y = 2 * (x * 255) + s} (omega arith) .1 (omega arith))
+-- ---- the grey before it is held to the top
+abbrev pub rounded : ℕ → ℕ → ℕ → ℕ
+rounded top x s = (2 * (x * top) + s) / (2 * s)
 
-module _ (x s q r : ℕ) (e : 255 * x ≡ q * s + r) where
-  pub rounded-down : 2 * r < s → rounded x s ≡ q
-  rounded-down h =
-      ap (λ (n : ℕ). n / (2 * s)) {x = 2 * (x * 255) + s} {y = q * (2 * s) + (2 * r + s)} (omega (arith, mul-left-comm q 2 s))
-      ∙ digits-div q (omega arith)
+module _ (top x s : ℕ) where
+  pub quotient : (2 * top * x + s) / (2 * s) ≡ rounded top x s
+  quotient = ap (λ (n : ℕ). n / (2 * s)) (omega (arith, mul-assoc 2 top x, mul-comm x top))
 
-  pub rounded-up : r < s → s ≤ 2 * r → rounded x s ≡ q + 1
-  rounded-up h k =
-      ap (λ (n : ℕ). n / (2 * s)) {x = 2 * (x * 255) + s} {y = (q + 1) * (2 * s) + (2 * r - s)}
-      (omega (arith, mul-left-comm q 2 s, add-mul q 1 (2 * s)))
-      ∙ digits-div (q + 1) (omega arith)
+  pub rounded-fits : 0 < s → x ≤ s → rounded top x s ≤ top
+  rounded-fits h k =
+      omega (
+        arith,
+        div-lt-iff-lt-mul {k = 2 * s} {x = 2 * (x * top) + s} {y = top + 1} (omega arith) .1
+            (omega (arith, mul-le-mul-right top k, add-mul top 1 (2 * s), mul-left-comm top 2 s, mul-comm s top)),
+      )
+
+  -- a state at white or past it, with some swing
+  pub gray-white : 0 < s → s ≤ x → top ≡ grayAt top x s
+  gray-white h k =
+      omega (
+        arith,
+        le-div-iff-mul-le {k = 2 * s} {x = top} {y = 2 * (x * top) + s} (omega arith) .1
+            (omega (arith, mul-le-mul-right top k, mul-left-comm top 2 s, mul-comm s top)),
+      )
+
+  -- from a quotient and a remainder of top times the state
+  module _ (q r : ℕ) (e : top * x ≡ q * s + r) where
+    pub rounded-down : 2 * r < s → rounded top x s ≡ q
+    rounded-down h =
+        ap (λ (n : ℕ). n / (2 * s)) {x = 2 * (x * top) + s} {y = q * (2 * s) + (2 * r + s)}
+        (omega (arith, mul-comm x top, mul-left-comm q 2 s))
+        ∙ digits-div q (omega arith)
+
+    pub rounded-up : r < s → s ≤ 2 * r → rounded top x s ≡ q + 1
+    rounded-up h k =
+        ap (λ (n : ℕ). n / (2 * s)) {x = 2 * (x * top) + s} {y = (q + 1) * (2 * s) + (2 * r - s)}
+        (omega (arith, mul-comm x top, mul-left-comm q 2 s, add-mul q 1 (2 * s)))
+        ∙ digits-div (q + 1) (omega arith)
+
+  -- from between whose bounds the formula's number lies
+  pub gray-from : (q : ℕ) → q ≤ top → q * (2 * s) ≤ 2 * (x * top) + s → 2 * (x * top) + s < (q + 1) * (2 * s) → grayAt top x s ≡ q
+  gray-from q h l u = omega (arith, div-eq-of-lt-le {k = q} (2 * s) {m = 2 * (x * top) + s} l u)
 
 -- ---- the least state of a grey, by a split quotient, and that it is the least
 pub least-split : (q s : ℕ) → (2 * q - 1) * (s / 510) + ((2 * q - 1) * (s % 510) + 509) / 510 ≡ leastOf q s
@@ -85,38 +113,48 @@ gray-between q x (suc s) k l u = elim (decLe (q + 1) (grayOf x (suc s))) [
   | no n ↦ omega (arith, least-gray x (suc s) (omega arith) q k l)
 ]
 
--- ---- long division: after i digits, which are all 1, (2 ^ i - 1) times the state is q times the swing and r
-pub record Digits (x s i q r : ℕ) : Type 0 where
-  pub whole : 2 ^ i * x ≡ q * s + r + x
+-- ---- long division: n, the digits of the top so far, times the state is q times the swing and r
+pub record Digits (x s n q r : ℕ) : Type 0 where
+  pub whole : n * x ≡ q * s + r
   pub below : r < s
-  pub small : q + 2 ≤ 2 * 2 ^ i
-  pub count : i ≤ 8
 
-twice : (i : ℕ) → 2 ^ (i + 1) ≡ 2 * 2 ^ i
-twice i = ap (λ (n : ℕ). 2 ^ n) (add-one i) ∙ pow-succ' 2 i
+module _ (x s : ℕ) where
+  pub digits-none : 0 < s → (n : ℕ) → n ≡ 0 → Digits x s n 0 0
+  digits-none h n e = record { whole = rw e (omega (arith, zero-mul x, zero-mul s)); below = h }
 
-pub digits-more : (x s i q r : ℕ) (d e : Sum) → i < 8 → Digits x s i q r → Carried r r s d → Carried (d .rest) x s e →
-    Digits x s (i + 1) (2 * q + d .carry + e .carry) (e .rest)
-digits-more x s i q r d e l g f f′ = record {
-  whole =
-      omega (
-        arith,
-        ap (λ (n : ℕ). n * x) (twice i),
-        mul-assoc 2 (2 ^ i) x,
-        g .whole,
-        f .whole,
-        f′ .whole,
-        mul-assoc 2 q s,
-        add-mul (2 * q + d .carry) (e .carry) s,
-        add-mul (2 * q) (d .carry) s,
-      );
-  below = f′ .below;
-  small = omega (arith, twice i, g .small, f .one, f′ .one);
-  count = omega arith;
-}
+  pub digits-more : (n q r : ℕ) (d e : Sum) → Digits x s (n / 2) q r → Carried r r s d → Carried (d .rest) (n % 2 * x) s e →
+      Digits x s n (2 * q + d .carry + e .carry) (e .rest)
+  digits-more n q r d e g f f′ = record {
+    whole =
+        ap (λ (k : ℕ). k * x) {x = n} {y = 2 * (n / 2) + n % 2} (omega arith)
+        ∙ omega (
+          arith,
+          add-mul (2 * (n / 2)) (n % 2) x,
+          mul-assoc 2 (n / 2) x,
+          g .whole,
+          f .whole,
+          f′ .whole,
+          mul-assoc 2 q s,
+          add-mul (2 * q + d .carry) (e .carry) s,
+          add-mul (2 * q) (d .carry) s,
+        );
+    below = f′ .below;
+  }
 
-pub digits-done : (x s i q r : ℕ) → 8 ≤ i → Digits x s i q r → 255 * x ≡ q * s + r
-digits-done x s i q r h g = omega (arith, ap (λ (n : ℕ). 2 ^ n * x) {x = i} {y = 8} (omega (arith, g .count)), g .whole)
+  -- the quotient of a state below the swing
+  pub digits-small : (n q r : ℕ) → x < s → Digits x s n q r → q ≤ n
+  digits-small n q r h g = elim (decLe q n) [
+    | yes k ↦ k
+    | no k ↦
+        let more : n + 1 ≤ q = omega arith in
+        let less : x ≤ s = omega arith in
+        absurd (omega (arith, g .whole, mul-le-mul-right s more, add-mul n 1 s, mul-le-mul-left n less))
+  ]
 
-pub digits-small : (x s i q r : ℕ) → Digits x s i q r → q ≤ 510
-digits-small x s i q r g = omega (arith, g .small, pow-mono (g .count))
+-- before the next digit, all but the last of those after it
+pub next-digit : (top left : ℕ) → 0 < left → top / 2 ^ (left - 1) / 2 ≡ top / 2 ^ left
+next-digit top zero h = absurd (omega arith)
+next-digit top (suc k) h =
+    ap (λ (n : ℕ). top / 2 ^ n / 2) {x = suc k - 1} {y = k} (omega arith)
+    ∙ div-div-eq-div-mul top (2 ^ k) 2
+    ∙ ap (λ (n : ℕ). top / n) (mul-comm (2 ^ k) 2 ∙ sym (pow-succ' 2 k))

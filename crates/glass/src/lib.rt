@@ -4,9 +4,9 @@
 // A state lies between black (0) and white (the full swing). A frame adds its drive and holds the
 // sum to that range; a run of frames is again one translation that is held, a `Transfer`.
 ghost use mathlib.Core.Path.{_≡_};
-ghost use Prim.Native.Nat.{_≤_, _<_, _+_, _-_, _*_, min};
+ghost use Prim.Native.Nat.{_≤_, _<_, _+_, _-_, _*_, _%_, _^_, min};
 ghost use Rattle.base.specs.Word.{top};
-ghost use Rattle.glass.specs.Gray.{levelOf, grayOf};
+ghost use Rattle.glass.specs.Gray.{levelOf, grayOf, topOf, grayAt};
 ghost use Rattle.glass.specs.InnerDivision.{Carried};
 ghost use Rattle.glass.specs.Transfer.{act, identityOf, shiftOf, thenOf};
 ghost use Rattle.glass.specs.Optics.{x3};
@@ -171,27 +171,30 @@ fn carried(a: u64, b: u64, swing: u64) -> Sum
     }
 }
 
-// The grey by long division of 255 * state, whose eight binary digits are all 1: each turn doubles
-// what is left and adds the state once.
-fn gray_wide(state: u64, swing: u64) -> u8
-    requires { ⌜ state < swing ⌝ }
-    ensures { λ r. ⌜ r ≡ grayOf state swing ⌝ }
+// The state, where the last binary digit of n is 1; else nothing.
+fn counted(n: u64, state: u64) -> u64
+    ensures { λ r. ⌜ r ≡ n % 2 * state ⌝ }
+{
+    if n % 2 == 1 { state } else { 0 }
+}
+
+// The grey by long division of top * state, digit by digit of the top: each turn doubles what is left
+// and adds the state where the digit is 1.
+fn gray_wide(state: u64, swing: u64, top: u64, digits: u32) -> u64
+    requires { ⌜ (state < swing) × (top < 2 ^ digits) × (digits ≤ 16) ⌝ }
+    ensures { λ r. ⌜ r ≡ grayAt top state swing ⌝ }
 {
     let mut q: u64 = 0;
     let mut r: u64 = 0;
-    let mut i: u64 = 0;
-    while i < 8 {
+    let mut left = digits;
+    while 0 < left {
+        left -= 1;
         let twice = carried(r, r, swing);
-        let more = carried(twice.rest, state, swing);
+        let more = carried(twice.rest, counted(top >> left, state), swing);
         q = 2 * q + twice.carry + more.carry;
         r = more.rest;
-        i += 1;
     }
-    if r < swing - r {
-        q as u8
-    } else {
-        (q + 1) as u8
-    }
+    if r < swing - r { q } else { q + 1 }
 }
 
 // The grey of a state, to the nearest, halves up. Below a swing of 2^54 the numbers of the formula
@@ -205,6 +208,28 @@ pub fn gray(state: u64, swing: u64) -> u8
     if swing < 0x40_0000_0000_0000 {
         ((510 * state + swing) / (2 * swing)) as u8
     } else {
-        gray_wide(state, swing)
+        gray_wide(state, swing, 255, 8) as u8
+    }
+}
+
+// The top of a picture: 0 stands for 255.
+pub fn top_of(top: u16) -> u16
+    ensures { λ r. ⌜ r ≡ topOf top ⌝ }
+{
+    if top == 0 { 255 } else { top }
+}
+
+// The same from 0 to a top. Below a swing of 2^47 the numbers of the formula fit 64 bits.
+pub fn gray_at(state: u64, swing: u64, top: u16) -> u16
+    ensures { λ r. ⌜ r ≡ grayAt (topOf top) state swing ⌝ }
+{
+    let white = top_of(top);
+    if swing <= state {
+        return if swing == 0 { 0 } else { white };
+    }
+    if swing < 0x8000_0000_0000 {
+        ((2 * white as u64 * state + swing) / (2 * swing)) as u16
+    } else {
+        gray_wide(state, swing, white as u64, 16) as u16
     }
 }

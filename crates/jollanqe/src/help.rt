@@ -17,8 +17,11 @@ pub(crate) fn say() {
     }
     line(b"  jollanqe help                 this\n");
     line(b"  jollanqe lines FILE           reads, diagnostics and the last picture, as text\n");
-    line(b"  jollanqe pgm FILE             the last picture as a graymap (Netpbm P5)\n");
-    line(b"  jollanqe png FILE             the last picture as a PNG file\n");
+    line(
+        b"  jollanqe pgm FILE [TOP]       the last picture as a graymap (Netpbm P5), its white at\n",
+    );
+    line(b"                                TOP, 1 to 65,535 (0: 255); none: the 8-bit picture\n");
+    line(b"  jollanqe png FILE [TOP]       the last picture as a PNG file; TOP is 255 or 65,535\n");
     line(
         b"  jollanqe pictures FILE DIR    every picture, as DIR/GENERATION.png, with a line each\n",
     );
@@ -27,7 +30,7 @@ pub(crate) fn say() {
     );
     line(b"                                frames, of how many\n");
     line(b"  jollanqe config FILE          the 312 bytes of the configuration, for vcd\n");
-    line(b"  jollanqe vcd CONFIG FILE [lines | pgm | png]\n");
+    line(b"  jollanqe vcd CONFIG FILE [lines | pgm [TOP] | png [TOP]]\n");
     line(
         b"                                the panel of a configuration after a dump of an analyser\n",
     );
@@ -65,10 +68,32 @@ pub(crate) fn wants_file(word: &[u8]) {
     io::write_all(STDERR_FILENO, b" night.capture\n");
 }
 
+// The same of a word of a picture.
+pub(crate) fn wants_picture(word: &[u8]) {
+    io::write_all(STDERR_FILENO, b"jollanqe: ");
+    io::write_all(STDERR_FILENO, word);
+    io::write_all(
+        STDERR_FILENO,
+        b" wants one file and at most a top, as in: jollanqe ",
+    );
+    io::write_all(STDERR_FILENO, word);
+    io::write_all(STDERR_FILENO, b" night.capture 65535\n");
+}
+
+// A top that is no number, or too large.
+pub(crate) fn wants_top() {
+    wanted(b"a top is a number from 1 to 65,535, or 0, which stands for 255");
+}
+
+// A top that a PNG file cannot have.
+pub(crate) fn no_png() {
+    wanted(b"a PNG file's top is 255 or 65,535, since its white is no other: pgm takes every top");
+}
+
 // The same of a dump.
 pub(crate) fn wants_dump() {
     wanted(
-        b"vcd wants a configuration, a dump and at most one of lines, pgm and png, as in: jollanqe vcd panel.config night.vcd png",
+        b"vcd wants a configuration, a dump and at most one of lines, pgm and png, perhaps with a top, as in: jollanqe vcd panel.config night.vcd png",
     );
 }
 

@@ -4,27 +4,44 @@ use crate::help;
 use crate::replay::Watch;
 use crate::task;
 use crate::task::Task;
+use crate::words::Top;
 use crate::words::count;
 use crate::words::same;
+use crate::words::top_in;
 use crate::words::word;
 use files::is_input;
+use shades::Tone;
 use showing::Form;
 
 pub(crate) enum Word {
     Help,
     // A task on one capture.
     Task(Task),
+    // Its last picture, perhaps at a top.
+    Picture(Form),
     Pictures,
     Compare,
     Dump,
     Unknown,
 }
 
-// What is written of a dump.
+// What is written of a dump, or of a picture.
 enum Chosen {
-    Form(Form),
+    Tone(Tone),
     // There is no such word, or too many or too few.
     Wrong,
+    // A top that is none, or that a PNG file cannot have.
+    NoTop,
+    NoPng,
+}
+
+// As the panel has it: the lines, or the 8-bit picture.
+fn plain(form: Form) -> Tone {
+    Tone {
+        form,
+        wide: false,
+        top: 0,
+    }
 }
 
 fn sort(w: &[u8]) -> Word {
@@ -32,13 +49,13 @@ fn sort(w: &[u8]) -> Word {
         return Word::Help;
     }
     if same(w, b"lines") {
-        return Word::Task(Task::Show(Form::Lines));
+        return Word::Task(Task::Show(plain(Form::Lines)));
     }
     if same(w, b"pgm") {
-        return Word::Task(Task::Show(Form::Graymap));
+        return Word::Picture(Form::Graymap);
     }
     if same(w, b"png") {
-        return Word::Task(Task::Show(Form::Png));
+        return Word::Picture(Form::Png);
     }
     if same(w, b"cuts") {
         return Word::Task(Task::Watch(Watch::Cuts));
@@ -103,6 +120,50 @@ fn writes_over(name: &[u8], out: &[u8]) -> bool {
     false
 }
 
+// Whether a top is one of a PNG file's whites: 255, for which 0 stands, and 65,535.
+fn is_png_top(top: u16) -> bool {
+    match top {
+        0 | 255 | 65_535 => true,
+        _ => false,
+    }
+}
+
+// A form at this top.
+fn at_top(form: Form, top: u16) -> Chosen {
+    let chosen = Chosen::Tone(Tone {
+        form,
+        wide: true,
+        top,
+    });
+    match form {
+        Form::Png => {
+            if is_png_top(top) {
+                return chosen;
+            }
+            Chosen::NoPng
+        }
+        _ => chosen,
+    }
+}
+
+// A picture by the n words of a line, of which number `at` is the top, if there is one.
+fn tone(form: Form, line: &[u8], n: usize, at: usize) -> Chosen {
+    if n == at {
+        return Chosen::Tone(plain(form));
+    }
+    if n < at {
+        return Chosen::Wrong;
+    }
+    if 1 < n - at {
+        return Chosen::Wrong;
+    }
+    let t = top_in(word(line, at));
+    match t {
+        Top::Is(top) => at_top(form, top),
+        Top::No => Chosen::NoTop,
+    }
+}
+
 // A word of one file.
 fn one_file(
     task: Task,
@@ -120,6 +181,66 @@ fn one_file(
         help::wants_file(word(line, 0));
         return;
     }
+    with_file(
+        task,
+        line,
+        in_batch,
+        file,
+        old,
+        new,
+        states,
+        numbers,
+        picture,
+        rows,
+    );
+}
+
+// The picture of one file, perhaps at a top.
+fn one_picture(
+    form: Form,
+    line: &[u8],
+    in_batch: bool,
+    file: &mut [u8],
+    old: &mut [u8],
+    new: &mut [u8],
+    states: &mut [i64],
+    numbers: &mut [u8],
+    picture: &mut [u8],
+    rows: &mut [u64],
+) {
+    let c = tone(form, line, before_target(line, in_batch), 2);
+    match c {
+        Chosen::Tone(tone) => with_file(
+            Task::Show(tone),
+            line,
+            in_batch,
+            file,
+            old,
+            new,
+            states,
+            numbers,
+            picture,
+            rows,
+        ),
+        Chosen::Wrong => help::wants_picture(word(line, 0)),
+        Chosen::NoTop => help::wants_top(),
+        Chosen::NoPng => help::no_png(),
+    }
+}
+
+// The file that a line names.
+fn with_file(
+    task: Task,
+    line: &[u8],
+    in_batch: bool,
+    file: &mut [u8],
+    old: &mut [u8],
+    new: &mut [u8],
+    states: &mut [i64],
+    numbers: &mut [u8],
+    picture: &mut [u8],
+    rows: &mut [u64],
+) {
     let name = word(line, 1);
     if takes_batch(name, in_batch) {
         return;
@@ -256,23 +377,26 @@ fn two_files(
     );
 }
 
-// What `vcd` writes, by the word behind its two files: the lines where there is none.
+// What `vcd` writes, by the words behind its two files: the lines where there are none.
 fn choose(line: &[u8], n: usize) -> Chosen {
+    if n < 3 {
+        return Chosen::Wrong;
+    }
     if n == 3 {
-        return Chosen::Form(Form::Lines);
+        return Chosen::Tone(plain(Form::Lines));
+    }
+    let w = word(line, 3);
+    if same(w, b"pgm") {
+        return tone(Form::Graymap, line, n, 4);
+    }
+    if same(w, b"png") {
+        return tone(Form::Png, line, n, 4);
     }
     if n != 4 {
         return Chosen::Wrong;
     }
-    let w = word(line, 3);
     if same(w, b"lines") {
-        return Chosen::Form(Form::Lines);
-    }
-    if same(w, b"pgm") {
-        return Chosen::Form(Form::Graymap);
-    }
-    if same(w, b"png") {
-        return Chosen::Form(Form::Png);
+        return Chosen::Tone(plain(Form::Lines));
     }
     Chosen::Wrong
 }
@@ -292,7 +416,7 @@ fn dump(
 ) {
     let c = choose(line, before_target(line, in_batch));
     match c {
-        Chosen::Form(form) => {
+        Chosen::Tone(tone) => {
             let config = word(line, 1);
             let name = word(line, 2);
             let out = target(line, in_batch);
@@ -302,7 +426,7 @@ fn dump(
             dumping::run(
                 config,
                 name,
-                form,
+                tone,
                 out,
                 file,
                 other,
@@ -315,6 +439,8 @@ fn dump(
             );
         }
         Chosen::Wrong => help::wants_dump(),
+        Chosen::NoTop => help::wants_top(),
+        Chosen::NoPng => help::no_png(),
     }
 }
 
@@ -350,6 +476,18 @@ pub(crate) fn run(
         Word::Help => say_help(line),
         Word::Task(task) => one_file(
             task,
+            line,
+            in_batch,
+            file,
+            old,
+            new,
+            states,
+            numbers,
+            picture,
+            rows,
+        ),
+        Word::Picture(form) => one_picture(
+            form,
             line,
             in_batch,
             file,

@@ -9,12 +9,14 @@ use crate::replay::Watch;
 use files::Got;
 use input::front;
 use libc::STDOUT_FILENO;
+use shades::Tone;
 use showing::Form;
+use showing::shade;
 use showing::show;
 use showing::tested;
 
 pub(crate) enum Task {
-    Show(Form),
+    Show(Tone),
     Watch(Watch),
     // The 312 bytes, as they stand.
     Config,
@@ -35,6 +37,36 @@ fn write_config(capture: &[u8], fd: i32) -> bool {
     io::write_all(fd, config_at(capture, c.end))
 }
 
+// The lines, or the picture, at a top of its own or as it is.
+fn show_by(
+    tone: Tone,
+    capture: &[u8],
+    fd: i32,
+    old: &mut [u8],
+    new: &mut [u8],
+    states: &mut [i64],
+    numbers: &mut [u8],
+    picture: &mut [u8],
+    rows: &mut [u64],
+) -> bool {
+    let form = tone.form;
+    if tone.wide {
+        return shade(
+            capture,
+            form,
+            tone.top,
+            fd,
+            old,
+            new,
+            states,
+            numbers,
+            picture,
+            rows,
+        );
+    }
+    show(capture, form, fd, old, new, states, numbers, picture, rows)
+}
+
 // A capture that is not turned back, to a descriptor; the answer is whether that could be written.
 fn write(
     task: Task,
@@ -49,7 +81,7 @@ fn write(
     rows: &mut [u64],
 ) -> bool {
     match task {
-        Task::Show(form) => show(capture, form, fd, old, new, states, numbers, picture, rows),
+        Task::Show(tone) => show_by(tone, capture, fd, old, new, states, numbers, picture, rows),
         Task::Watch(watch) => is_written(replay::replay(
             watch,
             capture,

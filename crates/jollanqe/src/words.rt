@@ -83,3 +83,38 @@ pub(crate) fn same(a: &[u8], b: &[u8]) -> bool {
     }
     true
 }
+
+// A top as a word gives it.
+pub(crate) enum Top {
+    Is(u16),
+    // No number from 0 to 65,535.
+    No,
+}
+
+// The value of a digit, 10 for any other byte.
+fn digit(b: u8) -> u32 {
+    if b < b'0' {
+        return 10;
+    }
+    if b'9' < b {
+        return 10;
+    }
+    (b - b'0') as u32
+}
+
+pub(crate) fn top_in(w: &[u8]) -> Top {
+    let mut value: u32 = 0;
+    let mut i: usize = 0;
+    while i < w.len() {
+        let d = digit(w[i]);
+        if 9 < d {
+            return Top::No;
+        }
+        value = value * 10 + d;
+        if 65_535 < value {
+            return Top::No;
+        }
+        i += 1;
+    }
+    Top::Is(value as u16)
+}

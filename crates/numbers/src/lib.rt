@@ -2,13 +2,14 @@
 // `ram_pixel` and `luts_of_pixels`).
 ghost use mathlib.Core.Path.{_≡_};
 ghost use Prim.Native.Nat.{ℕ, _<_, _≤_, _+_, _-_, _*_, _^_, min, max};
-ghost use lib.Dec.{eqb};
 ghost use lib.ListN.{length};
 ghost use Rattle.base.specs.Pick.{pick};
-ghost use Rattle.ram.specs.Plane.{bitOf};
 ghost use Rattle.numbers.specs.Filled.{filled, rowsFilled};
-ghost use Rattle.numbers.specs.InnerRow.{noRow, rowAt, numberIn, numberAt, numberOfBit, numberFrom, inOrder, byteOf, Spread, Outside, Whole, Some};
+ghost use Rattle.numbers.specs.InnerRow.{noRow, rowAt, numberIn, numberAt, inOrder, Outside, Whole, Some};
 ghost use Rattle.numbers.specs.Number.{mappingOf, reversedOf, shownAt, transitionOf, numberOf, someUndriven};
+
+mod eights;
+
 use base::KK;
 use base::KW;
 use base::UNDRIVEN;
@@ -16,6 +17,7 @@ use base::WK;
 use base::WW;
 use config::Uc8253Geometry;
 use config::Variant;
+use eights::number_bytes;
 use ram::bit;
 use ram::store;
 use registers::Area;
@@ -25,15 +27,6 @@ use registers::psr_ud;
 
 // No area has this column or row.
 const NOWHERE: u32 = 65_536;
-
-// Seven copies of a byte, such that bit 7 - k of copy k is bit 8 k, for k from 1 on.
-const COPIES: u64 = 0x0100_8040_2010_0804;
-
-// Bit 0 of each byte but the lowest.
-const HIGHER: u64 = 0x0101_0101_0101_0100;
-
-// 4 in each byte: old and new black.
-const FOURS: u64 = 0x0404_0404_0404_0404;
 
 // How the columns or the rows of the panel lie on the RAM's.
 pub struct Scan {
@@ -203,67 +196,6 @@ fn number_in(old: &[u8], new: &[u8], row: Row, white: u8, c: u32) -> u8
     table_number(bit(old, x, row.row) == white, bit(new, x, row.row) == white)
 }
 
-// The byte that has a 1 where b has the bit that is white.
-fn whites(b: u8, white: u8) -> u8
-    ensures { λ r. ⌜ ((k : ℕ) → k < 8 → eqb (bitOf r k) 1 ≡ eqb (bitOf b k) white) ⌝ }
-{
-    if white == 0 {
-        return 255 - b;
-    }
-    if white == 1 {
-        return b;
-    }
-    0
-}
-
-// The bits of a byte, a byte each, the highest bit in the lowest byte.
-fn spread(b: u8) -> u64
-    ensures { λ r. ⌜ Spread b r ⌝ }
-{
-    let w = b as u64;
-    ((w * COPIES) & HIGHER) + w / 128
-}
-
-// The numbers of the eight pixels of a byte of each plane, a byte each, 1 being white.
-fn eight(old: u8, new: u8) -> u64
-    ensures { λ r. ⌜ ((k : ℕ) → k < 8 → byteOf r k ≡ numberOfBit old new 1 k) ⌝ }
-{
-    let o = spread(old);
-    let n = spread(new);
-    FOURS - o - n - n
-}
-
-// The bytes of a number, the lowest first.
-fn put_eight(numbers: &mut [u8], at: usize, w: u64)
-    requires { ⌜ at + 8 ≤ length (now numbers) ⌝ }
-    ensures { λ r. ⌜ now (numbers .exit) ≡ filled (byteOf w) at 8 (now (numbers .entry)) ⌝ }
-{
-    for k in 0usize..8 {
-        numbers[at + k] = ((w >> (8 * k)) % 256) as u8;
-    }
-}
-
-// The numbers of the pixels of n bytes of each plane, with no branch for a pixel.
-fn number_bytes(
-    numbers: &mut [u8],
-    at: usize,
-    old: &[u8],
-    new: &[u8],
-    place: usize,
-    n: usize,
-    white: u8,
-)
-    requires { ⌜ (at + n * 8 ≤ length (now numbers)) × (place + n ≤ length (now old)) × (place + n ≤ length (now new)) ⌝ }
-    ensures { λ r. ⌜ now (numbers .exit)
-        ≡ filled (numberFrom (now (old .entry)) (now (new .entry)) place white) at (n * 8) (now (numbers .entry)) ⌝ }
-{
-    for i in 0usize..n {
-        let o = whites(old[place + i], white);
-        let w = whites(new[place + i], white);
-        put_eight(numbers, at + i * 8, eight(o, w));
-    }
-}
-
 // n pixels are left alone.
 fn leave(numbers: &mut [u8], at: usize, n: usize)
     requires { ⌜ at + n ≤ length (now numbers) ⌝ }
@@ -342,7 +274,8 @@ fn number_whole(
 ) -> u16
     requires { ⌜ (at < 2 ^ 33) × (x < count) ⌝ }
     ensures { λ r. ⌜ (x + r ≤ count)
-        × (now (numbers .exit) ≡ filled (λ k. numberIn row white (now (old .entry)) (now (new .entry)) (x + k)) at r (now (numbers .entry))) ⌝ }
+        × (now (numbers .exit)
+        ≡ filled (λ k. numberIn row white (now (old .entry)) (now (new .entry)) (x + k)) at r (now (numbers .entry))) ⌝ }
 {
     let n = bytes_from(count, row, x);
     let place = row.row as usize * 100 + x as usize / 8;
@@ -369,7 +302,8 @@ fn number_some(
 ) -> u16
     requires { ⌜ (at < 2 ^ 33) × (x < count) ⌝ }
     ensures { λ r. ⌜ Some r x count
-        × (now (numbers .exit) ≡ filled (λ k. numberIn row white (now (old .entry)) (now (new .entry)) (x + k)) at r (now (numbers .entry))) ⌝ }
+        × (now (numbers .exit)
+        ≡ filled (λ k. numberIn row white (now (old .entry)) (now (new .entry)) (x + k)) at r (now (numbers .entry))) ⌝ }
 {
     let alone = leave_some(numbers, at, count, row, x);
     if 0 < alone {

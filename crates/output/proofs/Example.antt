@@ -12,7 +12,7 @@ use Rattle.outcome.specs.declared.Came.the-variants as came
 use Rattle.output.specs.declared.Form.the-variants as form
 use Rattle.output.specs.declared.Outcome.{Outcome}
 use Rattle.output.specs.Lines.{noEventsLine, refusedLine, readLine, diagLine, droppedLine, imageLine, greysLine, graymapHead}
-use Rattle.output.specs.Units.{readOf, lastOf, linesOf, graymapOf, unitsOf}
+use Rattle.output.specs.Units.{readOf, lastOf, linesOf, rowsOf, sampleOf, wideRows, graymapUnits, unitsOf, wideOf}
 use Rattle.output.specs.Parts.{joined}
 
 -- 8 by 1, the first refresh from 100 to 3,100, one row stored; 14 events, none of them a read
@@ -36,8 +36,24 @@ worked = refl
 
 -- its picture as a graymap
 pub graymap : joined (unitsOf form.Graymap played (replicate 140 0) (replicate 14 257) row stored) ≡ ascii "P5\n8 1\n255\n" ++ row
-unfolding unitsOf graymapOf graymapHead digits
+unfolding unitsOf graymapUnits rowsOf graymapHead digits
 graymap = refl
+
+-- a picture of two pixels at the top 258, and one at the top 3
+abbrev pub small : Outcome
+small = record {
+  came = came.Played;
+  log = record { stored = 0; dropped = 0 };
+  image = record { width = 2; height = 1; generation = 1; kind = Full; interrupted = false; started = 100; at = 3100 };
+}
+
+pub wide-graymap : joined (wideOf form.Graymap 258 small (258 ∷ 3 ∷ [])) ≡ ascii "P5\n2 1\n258\n" ++ (1 ∷ 2 ∷ 0 ∷ 3 ∷ [])
+unfolding wideOf graymapUnits wideRows sampleOf graymapHead digits
+wide-graymap = refl
+
+pub narrow-graymap : joined (wideOf form.Graymap 3 small (3 ∷ 2 ∷ [])) ≡ ascii "P5\n2 1\n3\n" ++ (3 ∷ 2 ∷ [])
+unfolding wideOf graymapUnits wideRows sampleOf graymapHead digits
+narrow-graymap = refl
 
 -- a byte read at 5, an advance, and a read at 261 that gave none; nothing was refreshed
 abbrev pub quiet : Outcome

@@ -1,4 +1,5 @@
 pub mod Words
+pub mod SampleLaws
 pub mod UnitLaws
 pub mod PartLaws
 pub mod Example

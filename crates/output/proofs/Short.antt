@@ -1,4 +1,4 @@
--- Every unit of a panel of at most 800 columns is shorter than a buffer of 8,192 bytes, so parts through such a buffer are the whole text.
+-- Every unit of a panel of at most 800 columns, at any top, is shorter than a buffer of 8,192 bytes, so parts through such a buffer are the whole text.
 use mathlib.Core.Path.{_≡_, refl, sym, ap, _∙_}
 use mathlib.Core.Bool.{Bool, true, false}
 use mathlib.Core.List.{List, [], _∷_, _++_, map}
@@ -8,10 +8,8 @@ use native.Mathlib.Omega.{arith}
 use native.Mathlib.Decide.{decLe, ℕ-discrete}
 use lib.Dec.{eqb, lit<}
 use lib.ListN.{length, getD, take, drop, length-append, length-take, length-map}
-use lib.Seq.{getD-take, getD-drop}
 use Rattle.base.specs.Pick.{pick}
 use Rattle.base.proofs.Cases.{both}
-use Rattle.base.proofs.Lists.{getD-past}
 use Rattle.glass.specs.declared.PanelImage.{PanelImage}
 use Rattle.glass.specs.declared.RefreshKind.{RefreshKind}
 use Rattle.glass.specs.declared.RefreshKind.the-variants.{PowerOn, Full, Partial}
@@ -29,10 +27,12 @@ use Rattle.output.specs.declared.Form.the-variants as form
 use Rattle.output.specs.declared.Outcome.{Outcome}
 use Rattle.output.specs.Lines.{behind, spaced, line, byteWord, kindWord, flagWord, refreshWords}
 use Rattle.output.specs.Lines.{noEventsLine, refusedLine, readLine, diagLine, droppedLine, imageLine, greysLine, graymapHead}
-use Rattle.output.specs.Units.{upTo, rowOf, readOf, lastOf, linesOf, rowsOf, graymapOf, pngUnits, playedOf, unitsBy, unitsOf}
+use Rattle.output.specs.Units.{upTo, rowOf, readOf, lastOf, linesOf, rowsOf, pngUnits, playedOf, unitsBy, unitsOf}
+use Rattle.output.specs.Units.{wideRows, graymapUnits, depthOf, wideBy, wideOf}
 use Rattle.output.specs.Parts.{joined}
 use Rattle.output.proofs.PartLaws.{inParts, all-parts}
-use Rattle.output.proofs.UnitLaws.{length-rows, at-rows}
+use Rattle.output.proofs.UnitLaws.{row-below, row-long, at-rows, past-rows, at-wide, past-wide}
+use Rattle.output.proofs.SampleLaws.{length-samples}
 
 -- what the machine's types say of the numbers, and the width of a panel that is not oversized
 pub record Sized (o : Outcome) (events answers picture rows : List ℕ) : Type 0 where
@@ -76,18 +76,6 @@ numbers-short : (b m : ℕ) → ((x : ℕ) → x < b → length (digits x) ≤ m
 unfolding AllShort
 numbers-short b m s [] h = tt
 numbers-short b m s (x ∷ l) h = (s x (h 0), numbers-short b m s l (λ i. h (suc i)))
-
-module _ (b n y : ℕ) (l : List ℕ) (h : (i : ℕ) → getD l i 0 < b) where
-  row-below : (i : ℕ) → getD (rowOf n y l) i 0 < b
-  row-below i = elim (decLe n i) [
-    | yes p ↦
-        let z : getD (rowOf n y l) i 0 ≡ 0 = getD-past (rowOf n y l) i 0 (omega (arith, length-take n (drop (y * n) l))) in
-        omega (arith, z, h 0)
-    | no p ↦ rw (getD-take n (drop (y * n) l) i 0 (omega arith), getD-drop (y * n) l i 0) (h (y * n + i))
-  ]
-
-  row-long : length (rowOf n y l) ≤ n
-  row-long = omega (arith, length-take n (drop (y * n) l))
 
 little-below : (l : List ℕ) → ((i : ℕ) → getD l i 0 < 256) → (n at : ℕ) → little l at n < 256 ^ n
 little-below l h zero at = rw (pow-zero 256) (omega arith)
@@ -162,12 +150,12 @@ piece-length row first last s =
       picked-length last (four (adlerNumber s)) 4 (omega arith),
     ))
 
-row-unit-short : (row : List ℕ) (first last : Bool) (s : Adler) → length row ≤ 800 → length (rowUnit row first last s) < 8192
+row-unit-short : (row : List ℕ) (first last : Bool) (s : Adler) → length row ≤ 1600 → length (rowUnit row first last s) < 8192
 unfolding rowUnit
 row-unit-short row first last s h =
     omega (arith, chunk-length (ascii "IDAT") (piece row first last s), piece-length row first last s)
 
-row-units-short : (rows : List (List ℕ)) (first : Bool) (s : Adler) → ((i : ℕ) → length (getD rows i []) ≤ 800)
+row-units-short : (rows : List (List ℕ)) (first : Bool) (s : Adler) → ((i : ℕ) → length (getD rows i []) ≤ 1600)
     → Short (rowUnits rows first s)
 row-units-short [] first s h = short-nil
 row-units-short (r ∷ rs) first s h =
@@ -201,14 +189,21 @@ module _ (o : Outcome) (events answers picture rows : List ℕ) (s : Sized o eve
       let ws = digits (i .width) ∷ digits (i .height) ∷ digits (i .generation) ∷ refreshWords i in
       omega (arith, length-line 20 (ascii "image") ws (w, (h, (g, rs))))
 
-  head-short : length (graymapHead (o .image .width) (o .image .height)) < 8192
+  head-short : (top : ℕ) → top < 2 ^ 64 → length (graymapHead top (o .image .width) (o .image .height)) < 8192
   unfolding graymapHead AllShort
-  head-short =
+  head-short top t =
       let w = o .image .width in
       let h = o .image .height in
       let l = line (digits w ∷ digits h ∷ []) in
-      rw (length-append (ascii "P5\n" ++ l) (ascii "255\n"), length-append (ascii "P5\n") l)
-      (omega (arith, length-line 20 (digits w) (digits h ∷ []) (word-short h (s .height), tt), word-short w wide))
+      let m = line (digits top ∷ []) in
+      rw (length-append (ascii "P5\n" ++ l) m, length-append (ascii "P5\n") l)
+      (omega (
+        arith,
+        length-line 20 (digits w) (digits h ∷ []) (word-short h (s .height), tt),
+        word-short w wide,
+        length-line 20 (digits top) [] tt,
+        word-short top t,
+      ))
 
   read-of-short : (i : ℕ) → length (readOf events answers i) < 8192
   unfolding readOf
@@ -222,9 +217,6 @@ module _ (o : Outcome) (events answers picture rows : List ℕ) (s : Sized o eve
       greys-short (rowOf (o .image .width) y picture)
       (omega (arith, row-long 256 (o .image .width) y picture (s .picture-bytes), s .width))
       (row-below 256 (o .image .width) y picture (s .picture-bytes))
-
-  pixels-short : (y : ℕ) → length (rowOf (o .image .width) y picture) < 8192
-  pixels-short y = omega (arith, row-long 256 (o .image .width) y picture (s .picture-bytes), s .width)
 
   stored-short : (k : ℕ) → length (diagLine (rowOf 5 k rows)) < 8192
   stored-short k = diag-short (rowOf 5 k rows) (row-long (2 ^ 64) 5 k rows (s .rows-words)) (row-below (2 ^ 64) 5 k rows (s .rows-words))
@@ -253,37 +245,54 @@ module _ (o : Outcome) (events answers picture rows : List ℕ) (s : Sized o eve
       short-append reads (stored ++ last) (short-up-to (length events / 10) (readOf events answers) read-of-short)
       (short-append stored last (short-up-to (o .log .stored) (λ k. diagLine (rowOf 5 k rows)) stored-short) last-short)
 
-  graymap-short : Short (graymapOf (o .image) picture)
-  unfolding graymapOf
-  graymap-short =
-      short-cons (graymapHead (o .image .width) (o .image .height)) (upTo (o .image .height) (λ y. rowOf (o .image .width) y picture))
-      head-short (short-up-to (o .image .height) (λ y. rowOf (o .image .width) y picture) pixels-short)
+  graymap-short : (top : ℕ) (us : List (List ℕ)) → top < 2 ^ 64 → ((i : ℕ) → length (getD us i []) ≤ 1600) → Short (graymapUnits top (o .image) us)
+  unfolding graymapUnits
+  graymap-short top us t h =
+      short-cons (graymapHead top (o .image .width) (o .image .height)) us (head-short top t) (λ i. omega (arith, h i))
 
-  rows-long : (i : ℕ) → length (getD (rowsOf (o .image .width) (o .image .height) picture) i []) ≤ 800
+  file-short : (d : ℕ) (us : List (List ℕ)) → ((i : ℕ) → length (getD us i []) ≤ 1600) → Short (pngOf (o .image .width) (o .image .height) d us)
+  unfolding pngOf
+  file-short d us h =
+      short-cons (headUnit (o .image .width) (o .image .height) d) (rowUnits us true (adlerOf us) ++ endUnit ∷ [])
+      (file-head-short (o .image .width) (o .image .height) d)
+      (short-append (rowUnits us true (adlerOf us)) (endUnit ∷ []) (row-units-short us true (adlerOf us) h)
+      (short-cons endUnit [] end-short short-nil))
+
+  -- the rows, of bytes and at a top
+  rows-long : (i : ℕ) → length (getD (rowsOf (o .image .width) (o .image .height) picture) i []) ≤ 1600
   rows-long i =
       let w = o .image .width in
       let h = o .image .height in
       elim (decLe h i) [
-        | yes p ↦
-            let z = getD-past (rowsOf w h picture) i [] (omega (arith, length-rows w h picture)) in
-            omega (arith, ap length z)
-        | no p ↦ omega (arith, ap length (at-rows w h picture i (omega arith)), row-long 256 w i picture (s .picture-bytes), s .width)
+        | yes p ↦ omega (arith, ap length (past-rows w h picture i p))
+        | no p ↦ omega (arith, ap length (at-rows w h picture i (omega arith)), length-take w (drop (i * w) picture), s .width)
       ]
 
-  file-short : Short (pngUnits (o .image) picture)
-  unfolding pngUnits pngOf
-  file-short =
-      let us = rowsOf (o .image .width) (o .image .height) picture in
-      short-cons (headUnit (o .image .width) (o .image .height) 8) (rowUnits us true (adlerOf us) ++ endUnit ∷ [])
-      (file-head-short (o .image .width) (o .image .height) 8)
-      (short-append (rowUnits us true (adlerOf us)) (endUnit ∷ []) (row-units-short us true (adlerOf us) rows-long)
-      (short-cons endUnit [] end-short short-nil))
+  wide-long : (top : ℕ) (greys : List ℕ) (i : ℕ) → length (getD (wideRows top (o .image .width) (o .image .height) greys) i []) ≤ 1600
+  wide-long top greys i =
+      let w = o .image .width in
+      let h = o .image .height in
+      elim (decLe h i) [
+        | yes p ↦ omega (arith, ap length (past-wide w h greys top i p))
+        | no p ↦
+            omega (
+              arith,
+              ap length (at-wide w h greys top i (omega arith)),
+              length-samples top (rowOf w i greys),
+              length-take w (drop (i * w) greys),
+              s .width,
+            )
+      ]
+
+  png-short : Short (pngUnits (o .image) picture)
+  unfolding pngUnits
+  png-short = file-short 8 (rowsOf (o .image .width) (o .image .height) picture) rows-long
 
   played-short : (f : Form) → Short (playedOf f (o .log) (o .image) events answers picture rows)
   played-short form.Panel = lines-short
   played-short form.Lines = lines-short
-  played-short form.Graymap = graymap-short
-  played-short form.Png = file-short
+  played-short form.Graymap = graymap-short 255 (rowsOf (o .image .width) (o .image .height) picture) (lit< tt) rows-long
+  played-short form.Png = png-short
 
   units-by-short : (c : Came) (played : List (List ℕ)) → ((n : ℕ) → c ≡ came.Refused n → n < 2 ^ 64) → Short played
       → Short (unitsBy c played)
@@ -302,3 +311,20 @@ module _ (o : Outcome) (events answers picture rows : List ℕ) (s : Sized o eve
   whole-text f =
       let us = unitsOf f o events answers picture rows in
       all-parts 8192 (length us) 0 us (λ i h. units-short f i) (omega arith)
+
+  -- and a picture at a top likewise
+  wide-by-short : (f : Form) (top : ℕ) (greys : List ℕ) → top < 2 ^ 64 → Short (wideBy f top (o .image) greys)
+  wide-by-short form.Panel top greys t = graymap-short top (wideRows top (o .image .width) (o .image .height) greys) t (wide-long top greys)
+  wide-by-short form.Lines top greys t = graymap-short top (wideRows top (o .image .width) (o .image .height) greys) t (wide-long top greys)
+  wide-by-short form.Graymap top greys t = graymap-short top (wideRows top (o .image .width) (o .image .height) greys) t (wide-long top greys)
+  wide-by-short form.Png top greys t = file-short (depthOf top) (wideRows top (o .image .width) (o .image .height) greys) (wide-long top greys)
+
+  pub wide-short : (f : Form) (top : ℕ) (greys : List ℕ) → top < 2 ^ 64 → Short (wideOf f top o greys)
+  unfolding wideOf
+  wide-short f top greys t = units-by-short (o .came) _ (s .refused) (wide-by-short f top greys t)
+
+  pub wide-text : (f : Form) (top : ℕ) (greys : List ℕ) → top < 2 ^ 64
+      → let us = wideOf f top o greys in inParts 8192 (length us) 0 us ≡ joined us
+  wide-text f top greys t =
+      let us = wideOf f top o greys in
+      all-parts 8192 (length us) 0 us (λ i h. wide-short f top greys t i) (omega arith)

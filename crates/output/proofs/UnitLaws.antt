@@ -1,14 +1,21 @@
 -- Which unit stands at a place of the list, and how many there are.
 use mathlib.Core.Path.{_≡_, refl, sym, ap, _∙_}
+use mathlib.Core.Bool.{true, false}
 use mathlib.Core.List.{List, [], _∷_, _++_}
 use Prim.Native.Nat.{ℕ, zero, suc, _+_, _-_, _*_, _/_, _≤_, _<_}
 use native.Mathlib.Nat.{not-suc-le-zero, le-of-suc-le-suc, add-sub-cancel-left}
 use native.Mathlib.Omega.{arith}
-use lib.ListN.{length, getD, take, drop, length-append, length-drop, drop-of-length-le, List·getD-append}
-use lib.Seq.{take-nil, take-all, getD-append-add}
+use native.Mathlib.Decide.{decLe}
+use lib.Dec.{eqb}
+use lib.ListN.{length, getD, take, drop, length-append, length-take, length-drop, drop-of-length-le, List·getD-append}
+use lib.Seq.{take-nil, take-all, getD-append-add, getD-take, getD-drop}
 use borrow.Author.Tests.{ne-eqb}
 use Rattle.base.proofs.Lists.{getD-past}
+use Rattle.png.specs.declared.Adler.{Adler}
+use Rattle.png.specs.Zlib.{adlerOf}
+use Rattle.png.specs.Png.{rowUnit, endUnit, pngOf}
 use Rattle.png.proofs.UnitLaws.{length-png}
+use Rattle.png.proofs.UnitLaws as png
 use Rattle.glass.specs.declared.PanelImage.{PanelImage}
 use Rattle.log.specs.declared.Log.{Log}
 use Rattle.capture.specs.Little.{little}
@@ -18,8 +25,9 @@ use Rattle.output.specs.declared.Form.{Form}
 use Rattle.output.specs.declared.Form.the-variants as form
 use Rattle.output.specs.declared.Outcome.{Outcome}
 use Rattle.output.specs.Lines.{noEventsLine, refusedLine, readLine, diagLine, droppedLine, imageLine, greysLine, graymapHead}
-use Rattle.output.specs.Units.{upTo, rowOf, readOf, lastOf, linesOf, rowsOf, graymapOf, pngUnits, playedOf, unitsBy, unitsOf}
-use Rattle.output.specs.InnerCount.{playedCount}
+use Rattle.output.specs.Units.{upTo, rowOf, readOf, lastOf, linesOf, rowsOf, pngUnits, playedOf, unitsBy, unitsOf}
+use Rattle.output.specs.Units.{samplesOf, wideRows, graymapUnits, depthOf, wideBy, wideOf}
+use Rattle.output.specs.InnerCount.{playedCount, wideCount}
 
 length-up-to : {A : Type 0} (n : ℕ) (f : ℕ → A) → length (upTo n f) ≡ n
 length-up-to zero f = refl
@@ -32,6 +40,10 @@ at-up-to (suc n) f d (suc i) h = at-up-to n (λ k. f (suc k)) d i (le-of-suc-le-
 
 past-up-to : {A : Type 0} (n : ℕ) (f : ℕ → A) (d : A) (i : ℕ) → n ≤ i → getD (upTo n f) i d ≡ d
 past-up-to n f d i h = let e = length-up-to n f in getD-past (upTo n f) i d (omega (arith, e))
+
+pub up-to-same : {A : Type 0} (n : ℕ) (f g : ℕ → A) → ((k : ℕ) → f k ≡ g k) → upTo n f ≡ upTo n g
+up-to-same zero f g e = refl
+up-to-same (suc n) f g e = (λ i. e 0 i ∷ up-to-same n (λ k. f (suc k)) (λ k. g (suc k)) (λ k. e (suc k)) i)
 
 -- in the first of two lists, or in the second
 module _ {A : Type 0} (l m : List A) (d : A) (n i : ℕ) (e : length l ≡ n) where
@@ -112,25 +124,72 @@ module _ (n : ℕ) (p : PanelImage) (picture : List ℕ) where
     is-past l = behind-two k f h ∙ past-up-to _ (λ y. greysLine (rowOf (p .width) y picture)) [] (k - 2) l
 
 -- ---- a graymap: its head, and its rows
-module _ (p : PanelImage) (picture : List ℕ) where
-  pub is-head : (i : ℕ) → i ≡ 0 → getD (graymapOf p picture) i [] ≡ graymapHead (p .width) (p .height)
-  unfolding graymapOf
+module _ (top : ℕ) (p : PanelImage) (rows : List (List ℕ)) where
+  pub is-head : (i : ℕ) → i ≡ 0 → getD (graymapUnits top p rows) i [] ≡ graymapHead top (p .width) (p .height)
+  unfolding graymapUnits
   is-head i e = rw e
 
-  behind-head : (i : ℕ) → (i ≡ 0 → ⊥)
-      → getD (graymapOf p picture) i [] ≡ getD (upTo (p .height) (λ y. rowOf (p .width) y picture)) (i - 1) []
-  unfolding graymapOf
-  behind-head zero f = absurd (f refl)
-  behind-head (suc i) f =
+  pub is-row : (i : ℕ) → (i ≡ 0 → ⊥) → getD (graymapUnits top p rows) i [] ≡ getD rows (i - 1) []
+  unfolding graymapUnits
+  is-row zero f = absurd (f refl)
+  is-row (suc i) f =
       let e : i ≡ suc i - 1 = omega arith in
-      ap (λ (j : ℕ). getD (upTo (p .height) (λ y. rowOf (p .width) y picture)) j []) e
+      ap (λ (j : ℕ). getD rows j []) e
 
-  module _ (i : ℕ) (f : i ≡ 0 → ⊥) where
-    pub is-row : i - 1 < p .height → getD (graymapOf p picture) i [] ≡ rowOf (p .width) (i - 1) picture
-    is-row l = behind-head i f ∙ at-up-to _ (λ y. rowOf (p .width) y picture) [] (i - 1) l
+  pub length-graymap : length (graymapUnits top p rows) ≡ length rows + 1
+  unfolding graymapUnits
+  length-graymap = omega arith
 
-    pub is-past-row : p .height ≤ i - 1 → getD (graymapOf p picture) i [] ≡ []
-    is-past-row l = behind-head i f ∙ past-up-to _ (λ y. rowOf (p .width) y picture) [] (i - 1) l
+-- ---- the rows of a picture, of bytes or at a top
+module _ (w h : ℕ) (p : List ℕ) where
+  pub length-rows : length (rowsOf w h p) ≡ h
+  unfolding rowsOf
+  length-rows = length-up-to h (λ y. rowOf w y p)
+
+  pub at-rows : (y : ℕ) → y < h → getD (rowsOf w h p) y [] ≡ rowOf w y p
+  unfolding rowsOf
+  at-rows y l = at-up-to h (λ y. rowOf w y p) [] y l
+
+  pub past-rows : (y : ℕ) → h ≤ y → getD (rowsOf w h p) y [] ≡ []
+  unfolding rowsOf
+  past-rows y l = past-up-to h (λ y. rowOf w y p) [] y l
+
+  module _ (top : ℕ) where
+    pub length-wide : length (wideRows top w h p) ≡ h
+    unfolding wideRows
+    length-wide = length-up-to h (λ y. samplesOf top (rowOf w y p))
+
+    pub at-wide : (y : ℕ) → y < h → getD (wideRows top w h p) y [] ≡ samplesOf top (rowOf w y p)
+    unfolding wideRows
+    at-wide y l = at-up-to h (λ y. samplesOf top (rowOf w y p)) [] y l
+
+    pub past-wide : (y : ℕ) → h ≤ y → getD (wideRows top w h p) y [] ≡ []
+    unfolding wideRows
+    past-wide y l = past-up-to h (λ y. samplesOf top (rowOf w y p)) [] y l
+
+-- ---- a PNG file: a row that is not the last, the last, and the end
+pub not-zero : (i : ℕ) → (i ≡ 0 → ⊥) → 0 < i
+not-zero zero f = absurd (f refl)
+not-zero (suc i) f = omega arith
+
+module _ (w h d : ℕ) (rows : List (List ℕ)) (e : length rows ≡ h) (i y : ℕ) (f : i ≡ y + 1) where
+  some : i ≡ 0 → ⊥
+  some z = omega (arith, f, z)
+
+  back : y ≡ i - 1
+  back = omega (arith, f)
+
+  pub row-mid : (s : Adler) → y + 1 < h → rowUnit (getD rows y []) (eqb y 0) false s ≡ getD (pngOf w h d rows) i []
+  row-mid s l =
+      ap (λ (k : ℕ). rowUnit (getD rows k []) (eqb k 0) false s) back ∙ sym (png.is-row w h d rows i some (omega (arith, e, f)) s)
+
+  pub row-last : y + 1 ≡ h → rowUnit (getD rows y []) (eqb y 0) true (adlerOf rows) ≡ getD (pngOf w h d rows) i []
+  row-last l =
+      ap (λ (k : ℕ). rowUnit (getD rows k []) (eqb k 0) true (adlerOf rows)) back
+      ∙ sym (png.is-last w h d rows i some (omega (arith, e, f, l)))
+
+  pub file-end : y ≡ h → endUnit ≡ getD (pngOf w h d rows) i []
+  file-end l = sym (png.is-end w h d rows i (omega (arith, e, f, l)))
 
 -- ---- a row of what is lent: none of it, a part, or the whole
 module _ (n y : ℕ) (l : List ℕ) where
@@ -145,6 +204,19 @@ module _ (n y : ℕ) (l : List ℕ) where
 
   pub row-whole : take (y * n + n - y * n) (drop (y * n) l) ≡ rowOf n y l
   row-whole = ap (λ (k : ℕ). take k (drop (y * n) l)) (add-sub-cancel-left (y * n) n)
+
+-- of a list whose numbers are below b
+module _ (b n y : ℕ) (l : List ℕ) (h : (i : ℕ) → getD l i 0 < b) where
+  pub row-below : (i : ℕ) → getD (rowOf n y l) i 0 < b
+  row-below i = elim (decLe n i) [
+    | yes p ↦
+        let z : getD (rowOf n y l) i 0 ≡ 0 = getD-past (rowOf n y l) i 0 (omega (arith, length-take n (drop (y * n) l))) in
+        omega (arith, z, h 0)
+    | no p ↦ rw (getD-take n (drop (y * n) l) i 0 (omega arith), getD-drop (y * n) l i 0) (h (y * n + i))
+  ]
+
+  pub row-long : length (rowOf n y l) ≤ n
+  row-long = omega (arith, length-take n (drop (y * n) l))
 
 -- ---- the event's line
 same-inside : (l : List ℕ) (i d e : ℕ) → i < length l → getD l i d ≡ getD l i e
@@ -189,6 +261,19 @@ module _ (f : Form) (o : Outcome) (events answers picture rows : List ℕ) where
   unfolding unitsOf
   units-played e = ap (λ (c : Came). unitsBy c (playedOf f (o .log) (o .image) events answers picture rows)) e
 
+module _ (f : Form) (top : ℕ) (o : Outcome) (picture : List ℕ) where
+  pub wide-none : o .came ≡ came.NoEvents → wideOf f top o picture ≡ noEventsLine ∷ []
+  unfolding wideOf
+  wide-none e = ap (λ (c : Came). unitsBy c (wideBy f top (o .image) picture)) e
+
+  pub wide-refused : {n : ℕ} → o .came ≡ came.Refused n → wideOf f top o picture ≡ refusedLine n ∷ []
+  unfolding wideOf
+  wide-refused e = ap (λ (c : Came). unitsBy c (wideBy f top (o .image) picture)) e
+
+  pub wide-played : o .came ≡ came.Played → wideOf f top o picture ≡ wideBy f top (o .image) picture
+  unfolding wideOf
+  wide-played e = ap (λ (c : Came). unitsBy c (wideBy f top (o .image) picture)) e
+
 -- ---- how many units that is
 
 pub length-lines : (g : Log) (p : PanelImage) (events answers picture rows : List ℕ)
@@ -196,19 +281,6 @@ pub length-lines : (g : Log) (p : PanelImage) (events answers picture rows : Lis
 unfolding linesOf lastOf
 length-lines g p events answers picture rows =
     simp (length-append, length-up-to) (omega arith)
-
-pub length-graymap : (p : PanelImage) (picture : List ℕ) → length (graymapOf p picture) ≡ p .height + 1
-unfolding graymapOf
-length-graymap p picture = simp length-up-to (omega arith)
-
--- the rows of a picture
-pub length-rows : (w h : ℕ) (p : List ℕ) → length (rowsOf w h p) ≡ h
-unfolding rowsOf
-length-rows w h p = length-up-to h (λ y. rowOf w y p)
-
-pub at-rows : (w h : ℕ) (p : List ℕ) (y : ℕ) → y < h → getD (rowsOf w h p) y [] ≡ rowOf w y p
-unfolding rowsOf
-at-rows w h p y l = at-up-to h (λ y. rowOf w y p) [] y l
 
 pub length-file : (p : PanelImage) (picture : List ℕ) → length (pngUnits p picture) ≡ p .height + 2
 unfolding pngUnits
@@ -220,5 +292,27 @@ pub length-played : (f : Form) (g : Log) (p : PanelImage) (events answers pictur
     → length (playedOf f g p events answers picture rows) ≡ playedCount f (g .stored) (p .height) events
 length-played form.Panel g p events answers picture rows = length-lines g p events answers picture rows
 length-played form.Lines g p events answers picture rows = length-lines g p events answers picture rows
-length-played form.Graymap g p events answers picture rows = length-graymap p picture
+length-played form.Graymap g p events answers picture rows =
+    let lines = rowsOf (p .width) (p .height) picture in
+    omega (arith, length-graymap 255 p lines, length-rows (p .width) (p .height) picture)
 length-played form.Png g p events answers picture rows = length-file p picture
+
+module _ (top : ℕ) (p : PanelImage) (picture : List ℕ) where
+  length-graymap-at : length (graymapUnits top p (wideRows top (p .width) (p .height) picture)) ≡ p .height + 1
+  length-graymap-at =
+      omega (
+        arith,
+        length-graymap top p (wideRows top (p .width) (p .height) picture),
+        length-wide (p .width) (p .height) picture top,
+      )
+
+  pub length-wide-units : (f : Form) → length (wideBy f top p picture) ≡ wideCount f (p .height)
+  length-wide-units form.Panel = length-graymap-at
+  length-wide-units form.Lines = length-graymap-at
+  length-wide-units form.Graymap = length-graymap-at
+  length-wide-units form.Png =
+      omega (
+        arith,
+        length-png (p .width) (p .height) (depthOf top) (wideRows top (p .width) (p .height) picture),
+        length-wide (p .width) (p .height) picture top,
+      )

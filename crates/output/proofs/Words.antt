@@ -43,10 +43,10 @@ pub line-four-more : (a b d e : List ℕ) (ws : List (List ℕ))
     → (((a ++ (32 ∷ b)) ++ (32 ∷ d)) ++ (32 ∷ e)) ++ (behind ws ++ ascii "\n") ≡ line (a ∷ b ∷ d ∷ e ∷ ws)
 line-four-more a b d e ws = simp append-assoc
 
-pub graymap-words : (width height : ℕ)
-    → ((ascii "P5\n" ++ digits width) ++ (32 ∷ digits height)) ++ ascii "\n255\n" ≡ graymapHead width height
+pub graymap-words : (top width height : ℕ)
+    → ((((ascii "P5\n" ++ digits width) ++ (32 ∷ digits height)) ++ (10 ∷ [])) ++ digits top) ++ (10 ∷ []) ≡ graymapHead top width height
 unfolding graymapHead
-graymap-words width height = simp (append-assoc, append-nil)
+graymap-words top width height = simp (append-assoc, append-nil)
 
 -- ---- numbers in a row: one more, and all
 map-last : (xs : List ℕ) (x : ℕ) → map digits (xs ++ (x ∷ [])) ≡ map digits xs ++ (digits x ∷ [])

@@ -10,3 +10,10 @@ playedCount form.Panel stored height events = length events / 10 + (stored + hei
 playedCount form.Lines stored height events = length events / 10 + (stored + height + 2)
 playedCount form.Graymap stored height events = height + 1
 playedCount form.Png stored height events = height + 2
+
+-- and a picture at a top
+abbrev pub wideCount : Form → ℕ → ℕ
+wideCount form.Panel height = height + 1
+wideCount form.Lines height = height + 1
+wideCount form.Graymap height = height + 1
+wideCount form.Png height = height + 2

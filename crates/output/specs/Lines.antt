@@ -66,5 +66,5 @@ unfoldable pub greysLine : List ℕ → List ℕ
 greysLine row = line (map digits row)
 
 -- a graymap's head: width, height and the largest grey
-unfoldable pub graymapHead : ℕ → ℕ → List ℕ
-graymapHead width height = ascii "P5\n" ++ line (digits width ∷ digits height ∷ []) ++ ascii "255\n"
+unfoldable pub graymapHead : ℕ → ℕ → ℕ → List ℕ
+graymapHead top width height = ascii "P5\n" ++ line (digits width ∷ digits height ∷ []) ++ line (digits top ∷ [])

@@ -7,6 +7,8 @@ mod lines;
 mod parts;
 mod pgm;
 mod png_file;
+mod samples;
+mod wide;
 
 ghost use mathlib.Core.Path.{_≡_};
 ghost use mathlib.Core.List.{List, [], _∷_};
@@ -21,6 +23,8 @@ use glass::PanelImage;
 use log::Log;
 pub use outcome::Came;
 use text::put;
+pub use wide::wide_count;
+pub use wide::wide_part;
 
 // What is written of a capture that is played.
 pub enum Form {
@@ -72,7 +76,7 @@ fn played_count(form: Form, stored: u16, height: u16, events: &[u8]) -> usize
 }
 
 // An evening without events has one unit.
-fn no_events(text: &mut [u8], held: usize, i: usize) -> usize
+pub(crate) fn no_events(text: &mut [u8], held: usize, i: usize) -> usize
     ensures { λ r. ⌜ Puts (getD (noEventsLine ∷ []) i []) held r (now (text .entry)) (now (text .exit)) ⌝ }
 {
     if i == 0 {
@@ -82,7 +86,7 @@ fn no_events(text: &mut [u8], held: usize, i: usize) -> usize
 }
 
 // A refused capture has one unit.
-fn refused(text: &mut [u8], held: usize, no: u8, i: usize) -> usize
+pub(crate) fn refused(text: &mut [u8], held: usize, no: u8, i: usize) -> usize
     ensures { λ r. ⌜ Puts (getD (refusedLine no ∷ []) i []) held r (now (text .entry)) (now (text .exit)) ⌝ }
 {
     if i == 0 {

@@ -17,6 +17,21 @@ pub(crate) fn greys_of(picture: &[u8], width: u16, y: u16) -> &[u8]
     &picture[at..at + n]
 }
 
+// Row y of a picture at a top.
+pub(crate) fn wide_row(picture: &[u16], width: u16, y: u16) -> &[u16]
+    ensures { λ r. ⌜ now r ≡ rowOf width y (now (picture .entry)) ⌝ }
+{
+    let n = width as usize;
+    let at = y as usize * n;
+    if picture.len() <= at {
+        return &picture[0..0];
+    }
+    if picture.len() - at < n {
+        return &picture[at..];
+    }
+    &picture[at..at + n]
+}
+
 // The five numbers of stored row i; what lies past the end is left out.
 pub(crate) fn numbers_of(rows: &[u64], i: u16) -> &[u64]
     ensures { λ r. ⌜ now r ≡ rowOf 5 i (now (rows .entry)) ⌝ }

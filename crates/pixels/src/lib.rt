@@ -1,17 +1,18 @@
 // The glass over lent buffers (mod.rs: new, finish): the states, the table numbers and the picture,
 // an entry for each pixel.
 ghost use mathlib.Core.Path.{_≡_};
+ghost use mathlib.Core.Bool.{true};
 ghost use Prim.Native.Nat.{_*_, _≤_, min};
 ghost use lib.Dec.{ltb};
 ghost use lib.ListN.{length, replicate};
 ghost use Rattle.base.specs.Integer.{up};
 ghost use Rattle.base.specs.Pick.{pick};
-ghost use Rattle.glass.specs.Gray.{grayOf};
-ghost use Rattle.pixels.specs.States.{stateHeld, isState, everyState, isNumber, everyNumber};
+ghost use Rattle.glass.specs.Gray.{topOf, grayAt, grayOf};
+ghost use Rattle.pixels.specs.States.{most, stateHeld, isState, everyState, isNumber, everyNumber};
 ghost use Rattle.pixels.specs.Drive.{driven};
 ghost use Rattle.pixels.specs.InnerReady.{readyOf, Bounded, movedReady, slotOf};
-ghost use Rattle.pixels.specs.Draw.{drawn};
-ghost use Rattle.pixels.specs.InnerGuess.{thresholdOf, Thresholds, white, Scaled};
+ghost use Rattle.pixels.specs.Draw.{drawnAt, drawn};
+ghost use Rattle.pixels.specs.InnerGuess.{thresholdOf, Thresholds, white, Scaled, Prepared};
 use base::KK;
 use base::KW;
 use base::UNDRIVEN;
@@ -24,6 +25,8 @@ use base::saturating_mul;
 use base::saturating_sub;
 use glass::Transfer;
 use glass::gray;
+use glass::gray_at;
+use glass::top_of;
 
 // The largest state that an i64 holds: 2^63 - 1.
 const MOST: u64 = 0x7FFF_FFFF_FFFF_FFFF;
@@ -41,6 +44,12 @@ const THRESHOLDS: usize = 257;
 const UNIT: u64 = 0x40_0000_0000_0000;
 
 const WHITE: u64 = 0x3FC0_0000_0000_0000;
+
+// A grey in the units of a guess at any top, 2^-46.
+const FINE: u64 = 0x4000_0000_0000;
+
+// What is left of a swing after a right guess, divided by twice the top, lies below.
+const FAR: u64 = 0x4_0000;
 
 // How far a state lies above zero.
 fn above(z: i64) -> u64
@@ -207,7 +216,7 @@ fn thresholds(swing: u64) -> [u64; THRESHOLDS]
 }
 
 // How a grey is guessed: the leading bits of the state, at most `most`, times the factor are the
-// grey in units of 2^-54.
+// grey in the units of the guess.
 struct Scale {
     shift: u32,
     most: u64,
@@ -222,20 +231,20 @@ fn excess(x: u64) -> u32
     if zeros < 32 { 32 - zeros } else { 0 }
 }
 
-// White, 255, in units of 2^-54, divided by the number that stands for it.
-fn factor(most: u64) -> u64
+// White in units of a guess, divided by the number that stands for it.
+fn factor(most: u64, white: u64) -> u64
     ensures { λ r. ⌜ most * r ≤ white ⌝ }
 {
-    if most == 0 { 0 } else { WHITE / most }
+    if most == 0 { 0 } else { white / most }
 }
 
 impl Scale {
-    fn new(swing: u64) -> Scale
-        ensures { λ r. ⌜ Scaled r ⌝ }
+    fn new(swing: u64, white: u64) -> Scale
+        ensures { λ r. ⌜ Scaled r white ⌝ }
     {
         let shift = excess(swing);
         let most = swing >> shift;
-        let factor = factor(most);
+        let factor = factor(most, white);
         Scale {
             shift,
             most,
@@ -247,7 +256,7 @@ impl Scale {
 // The grey of a state. It is guessed by a multiplication, the thresholds tell whether the guess is
 // right, and only where it is not the grey is divided for.
 fn shade(x: u64, swing: u64, scale: Scale, from: &[u64]) -> u8
-    requires { ⌜ Scaled scale × Thresholds swing (now from) 257 ⌝ }
+    requires { ⌜ Scaled scale white × Thresholds swing (now from) 257 ⌝ }
     ensures { λ r. ⌜ r ≡ grayOf x swing ⌝ }
 {
     let a = x >> scale.shift;
@@ -268,12 +277,98 @@ pub fn draw(picture: &mut [u8], states: &[i64], swing: u64)
 {
     let n = shorter(picture.len(), states.len());
     let from = thresholds(swing);
-    let scale = Scale::new(swing);
+    let scale = Scale::new(swing, WHITE);
     let mut i: usize = 0;
     while i < n {
         let z = states[i];
         let x = above(z);
         picture[i] = shade(x, swing, scale, &from);
+        i += 1;
+    }
+}
+
+// What greys at a top want, worked out once for all pixels: the swing is `whole` times `double`,
+// which is twice the top, and `rest`.
+struct Wide {
+    swing: u64,
+    top: u16,
+    double: u64,
+    whole: u64,
+    rest: u64,
+    scale: Scale,
+}
+
+impl Wide {
+    fn new(swing: u64, top: u16) -> Wide
+        ensures { λ r. ⌜ Prepared swing (topOf top) r ⌝ }
+    {
+        let white = top_of(top);
+        let double = 2 * white as u64;
+        let scale = Scale::new(swing, white as u64 * FINE);
+        Wide {
+            swing,
+            top: white,
+            double,
+            whole: swing / double,
+            rest: swing % double,
+            scale,
+        }
+    }
+}
+
+// Whether a guess is the grey: twice the guess in swings lies at most a swing above twice the top in
+// states, and less than a swing below. All is divided by twice the top, and so fits 64 bits.
+fn is_grey(q: u64, x: u64, w: Wide) -> bool
+    requires { ⌜ Prepared (w .swing) (w .top) w × (q ≤ w .top) × (x ≤ most) ⌝ }
+    ensures { λ r. ⌜ (r ≡ true → grayAt (w .top) x (w .swing) ≡ q) ⌝ }
+{
+    let reached = x + w.whole;
+    let wanted = 2 * q * w.whole;
+    if reached < wanted {
+        return false;
+    }
+    let over = reached - wanted;
+    let part = 2 * q * w.rest;
+    if w.double * least(over, FAR) + w.rest < part {
+        return false;
+    }
+    if over < 2 * w.whole {
+        return true;
+    }
+    let past = over - 2 * w.whole;
+    if FAR <= past {
+        return false;
+    }
+    w.double * past < part + w.rest
+}
+
+// The grey of a state at a top, guessed as `shade` does and tested without a table.
+fn shade_wide(x: u64, w: Wide) -> u16
+    requires { ⌜ Prepared (w .swing) (w .top) w × (x ≤ most) ⌝ }
+    ensures { λ r. ⌜ r ≡ grayAt (w .top) x (w .swing) ⌝ }
+{
+    let a = x >> w.scale.shift;
+    if a <= w.scale.most {
+        let q = (a * w.scale.factor + FINE / 2) / FINE;
+        if is_grey(q, x, w) {
+            return q as u16;
+        }
+    }
+    gray_at(x, w.swing, w.top)
+}
+
+// The picture of the states at a top, of which 0 stands for 255; entries past the shorter of the two
+// stay.
+pub fn draw_wide(picture: &mut [u16], states: &[i64], swing: u64, top: u16)
+    ensures { λ _. ⌜ now (picture .exit) ≡ drawnAt (topOf top) swing (now (states .entry)) (now (picture .entry)) ⌝ }
+{
+    let n = shorter(picture.len(), states.len());
+    let w = Wide::new(swing, top);
+    let mut i: usize = 0;
+    while i < n {
+        let z = states[i];
+        let x = above(z);
+        picture[i] = shade_wide(x, w);
         i += 1;
     }
 }

@@ -4,7 +4,7 @@ ghost use mathlib.Core.Bool.{true, false};
 ghost use Prim.Native.Nat.{ℕ};
 ghost use Rattle.base.specs.RefusalNumbers.{refusalNumber};
 ghost use Rattle.controller.specs.World.{Buffers, world};
-ghost use Rattle.controller.specs.Setters.{withOld, withNew, withPicture, withRows};
+ghost use Rattle.controller.specs.Setters.{withOld, withNew, withStates, withPicture, withRows};
 ghost use Rattle.controller.specs.TurnedBack as tests;
 ghost use Rattle.controller.specs.Calls as calls;
 ghost use Rattle.controller.specs.Ask.{did, refusedBy, answered};
@@ -16,6 +16,8 @@ use controller::Uc8253;
 use controller::Work;
 use log::ROWS;
 use log::taken;
+use pixels::all_states;
+use pixels::draw_wide;
 use ram::Found;
 use ram::PLANE;
 use rules::busy_at;
@@ -172,4 +174,38 @@ pub fn row(p: Uc8253, picture: &[u8], y: u16) -> &[u8]
         return &picture[at..at + width];
     }
     &picture[0..0]
+}
+
+// 6; 5 for the states and the buffer, which has room for so many; the states by 7.
+fn wide_refused(p: Uc8253, states: &[i64], room: usize) -> Refusal
+    ensures { λ r. ⌜ refusalNumber r ≡ calls.wideRefused p (now (states .entry)) room ⌝ }
+{
+    if foreign(p) {
+        return Refusal::ForeignRecord;
+    }
+    let pixels = p.config.panel.sources as usize * p.config.panel.gates as usize;
+    if states.len() != pixels {
+        return Refusal::BufferLength;
+    }
+    if room != pixels {
+        return Refusal::BufferLength;
+    }
+    if all_states(states, p.config.optics.full_swing) {
+        return Refusal::Nothing;
+    }
+    Refusal::ForeignContents
+}
+
+// The picture of the states at a top, 0 standing for 255, into the lent buffer; a refused question
+// leaves it (2026-03).
+pub fn wide_picture(p: Uc8253, states: &[i64], wide: &mut [u16], top: u16) -> Refusal
+    ensures { λ r. ⌜ ((b : Buffers) → Asked (ask.askPicture top (now (wide .entry))) p (withStates (now (states .entry)) b) r
+        (ask.wide (now (wide .exit)))) ⌝ }
+{
+    let refused = wide_refused(p, states, wide.len());
+    if refused.none() {
+        draw_wide(wide, states, p.config.optics.full_swing, top);
+        return refused;
+    }
+    refused
 }

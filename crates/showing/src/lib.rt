@@ -159,6 +159,81 @@ pub fn show(
     )
 }
 
+// The capture in buffers of its panel's size: played, and then its picture at a top.
+fn shade_in(
+    file: &[u8],
+    c: Capture,
+    form: Form,
+    top: u16,
+    fd: i32,
+    answers: &mut [u16],
+    old: &mut [u8],
+    new: &mut [u8],
+    states: &mut [i64],
+    numbers: &mut [u8],
+    picture: &mut [u8],
+    rows: &mut [u64],
+) -> bool
+    requires { ⌜ Reads (now file) c ⌝ }
+    ensures { λ r. ⌜ after old new states numbers picture rows
+        ≡ played form (now (file .entry)) (before old new states numbers picture rows) .lent ⌝ }
+{
+    let played = play(
+        form,
+        file,
+        c,
+        answers,
+        old,
+        new,
+        states,
+        numbers,
+        picture,
+        rows,
+    );
+    let chip = played.chip;
+    shades::write(form, top, fd, chip, states)
+}
+
+// The capture in the front of what is lent, and its picture at a top, 0 standing for 255, written to
+// the descriptor; the answer is whether all of it could be written (2026-03).
+pub fn shade(
+    file: &[u8],
+    form: Form,
+    top: u16,
+    fd: i32,
+    old: &mut [u8],
+    new: &mut [u8],
+    states: &mut [i64],
+    numbers: &mut [u8],
+    picture: &mut [u8],
+    rows: &mut [u64],
+) -> bool
+    ensures { λ r. ⌜ after old new states numbers picture rows
+        ≡ leftBy form (now (file .entry)) (before old new states numbers picture rows) ⌝ }
+{
+    let mut answers = [0u16; MOST_EVENTS];
+    let c = capture::read(file);
+    let config = c.config;
+    let pixels = capture::pixels(config);
+    let n = cut(pixels, states.len());
+    let k = cut(pixels, numbers.len());
+    let q = cut(pixels, picture.len());
+    shade_in(
+        file,
+        c,
+        form,
+        top,
+        fd,
+        &mut answers,
+        old,
+        new,
+        &mut states[..n],
+        &mut numbers[..k],
+        &mut picture[..q],
+        rows,
+    )
+}
+
 // The capture as `panel` writes it, over the two lent planes, which then hold what its last event
 // left in them.
 pub fn show_panel(file: &[u8], old: &mut [u8], new: &mut [u8])

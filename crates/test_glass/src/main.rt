@@ -1,6 +1,6 @@
-// Replays stored answers of the Rust (oracle/README.md says how they are made): standard input holds
-// tables, each a count and then so many rows. Prints a line for each row that differs, and a last
-// line for each table.
+// Replays stored answers of the Rust (oracle/README.md says how they are made) and of tests/greys.py:
+// standard input holds tables, each a count and then so many rows. Prints a line for each row that
+// differs, and a last line for each table.
 mod print;
 mod refresh;
 mod table;
@@ -17,6 +17,8 @@ fn replay(s: &[u8]) {
     print::summary(Table::Refresh, refreshes);
     let ruled = table::compared(Table::Ruled, s, refreshes.next);
     print::summary(Table::Ruled, ruled);
+    let wide = table::compared(Table::Wide, s, ruled.next);
+    print::summary(Table::Wide, wide);
 }
 
 fn main() {

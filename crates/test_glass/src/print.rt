@@ -17,6 +17,9 @@ fn name(table: Table) {
         Table::Ruled => {
             io::write_all(STDOUT_FILENO, b"ruled");
         }
+        Table::Wide => {
+            io::write_all(STDOUT_FILENO, b"wide");
+        }
     }
 }
 

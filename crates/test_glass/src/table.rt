@@ -15,6 +15,8 @@ pub enum Table {
     // Rows of a refresh of one pixel, by rule 1 of VCOM, and by either.
     Refresh,
     Ruled,
+    // Rows of TOP STATE SWING GREY, of tests/greys.py.
+    Wide,
 }
 
 // Whether a row's answers are the functions', and the place after it.
@@ -54,12 +56,25 @@ fn gray_row(s: &[u8], at: usize) -> Checked {
     }
 }
 
+fn wide_row(s: &[u8], at: usize) -> Checked {
+    let top = number(s, at);
+    let state = number(s, top.next);
+    let swing = number(s, state.next);
+    let gray = number(s, swing.next);
+    let found = glass::gray_at(state.value, swing.value, (top.value % 0x1_0000) as u16);
+    Checked {
+        same: found as u64 == gray.value,
+        next: gray.next,
+    }
+}
+
 fn check_row(table: Table, s: &[u8], at: usize) -> Checked {
     match table {
         Table::Level => level_row(s, at),
         Table::Gray => gray_row(s, at),
         Table::Refresh => refresh::refresh_row(s, at),
         Table::Ruled => refresh::ruled_row(s, at),
+        Table::Wide => wide_row(s, at),
     }
 }
 

@@ -19,6 +19,7 @@ pub use questions::ram_bit;
 pub use questions::row;
 pub use questions::row_refused;
 pub use questions::take_diagnostics;
+pub use questions::wide_picture;
 ghost use Rattle.controller.specs.Ask as ask;
 ghost use Rattle.controller.specs.Lent.{Called, Answers};
 use base::Refusal;

@@ -22,7 +22,7 @@ use Rattle.controller.specs.Sound.{Sound}
 use Rattle.controller.proofs.Sound.{sound-made, sound-arrived, sound-command, sound-data}
 use Rattle.controller.proofs.Sound.{sound-reading, sound-reset, sound-ruled, sound-take, never-turned, home}
 use Rattle.walk.specs.Machine.{Fed, fresh, fed1, framesFed1, framesAt, ran, framesFed, stepped}
-use Rattle.controller.specs.Ask.{Ask, command, datum, reading, advance, reset, vcomRule, taking, askBusy, askDeadline, askBit, askRow}
+use Rattle.controller.specs.Ask.{Ask, command, datum, reading, advance, reset, vcomRule, taking, askBusy, askDeadline, askBit, askRow, askPicture}
 use Rattle.walk.specs.Kept.{Machine}
 use Rattle.walk.specs.Calls.{Call, turned, next, after, OwnFor, OwnBuffers, IsByte, Bytes}
 use Rattle.walk.specs.Calls.{fedAt, fedBy, start, place, stateAt, framesBetween, Demand3}
@@ -32,7 +32,7 @@ use Rattle.walk.proofs.Calmness.{calm-stepped, calm-fresh}
 use Rattle.walk.proofs.Aptness.{Apt}
 use Rattle.walk.proofs.Follow.{moved, apt-moved, view-moved}
 use Rattle.walk.proofs.Pixel.{stepped-serves, states-at}
-use Rattle.walk.proofs.Lending.{Gone, back, on, gone, states-long, panelled, serves, take-accepted, sound-accepted}
+use Rattle.walk.proofs.Lending.{Gone, back, on, gone, states-long, panelled, serves, take-accepted, sound-accepted, pixels, roomy}
 use Rattle.walk.proofs.Lending.{lendingOf, lending, plain, plain-byte, plain-rest, lent-turned, lent-own, Lendable}
 
 -- ---- the calls before a place, and those from it on
@@ -116,6 +116,7 @@ sound-moved (askBusy t) w b s = s
 sound-moved askDeadline w b s = s
 sound-moved (askBit older x y) w b s = s
 sound-moved (askRow y) w b s = s
+sound-moved (askPicture top wide) w b s = s
 
 -- ---- what holds at each place
 pub record Good (g : Uc8253Config) (at : World) : Type 0 where
@@ -248,38 +249,40 @@ demand3 g b cs gray e bytes own i j le lj p h = record {
 }
 
 -- a call that is lent the place's buffers is never turned back
-pub accepts : (g : Uc8253Config) (at : World) (c : Call) → Good g at → c .lent ≡ at .lent → turned at c ≡ false
+pub accepts : (g : Uc8253Config) (at : World) (c : Call) → Good g at → c .lent ≡ at .lent → roomy (pixels g) (c .ask) ≡ true
+    → turned at c ≡ false
 unfolding turned
-accepts g at c good l =
+accepts g at c good l r =
     ap (λ (x : Buffers). not (eqb (refusedBy (c .ask) (world (at .chip) x)) 0)) l
-    ∙ ap (λ (n : ℕ). not (eqb n 0)) (sound-accepted home never-turned (c .ask) at (good .sound))
+    ∙ ap (λ (n : ℕ). not (eqb n 0)) (sound-accepted home never-turned (c .ask) at (good .sound)
+    (ap (λ (x : Uc8253Config). roomy (pixels x) (c .ask)) (good .config) ∙ r))
 
 pub never-refused : (g : Uc8253Config) (b : Buffers) (cs : List Call) → g .optics .«initial_gray» < 256 → makingRefused g b ≡ 0 → Bytes cs
     → OwnBuffers (start g b) cs
-    → (i : ℕ) (c : Call) → c .lent ≡ place g b cs i .lent → turned (place g b cs i) c ≡ false
+    → (i : ℕ) (c : Call) → c .lent ≡ place g b cs i .lent → roomy (pixels g) (c .ask) ≡ true → turned (place g b cs i) c ≡ false
 unfolding place
-never-refused g b cs gray e bytes own i c l =
+never-refused g b cs gray e bytes own i c l r =
     accepts g (after (start g b) (take i cs)) c
-    (after-good g (start g b) (take i cs) (start-good g b gray e) (bytes-take cs i bytes) (own-take (start g b) cs i own)) l
+    (after-good g (start g b) (take i cs) (start-good g b gray e) (bytes-take cs i bytes) (own-take (start g b) cs i own)) l r
 
 -- the hypotheses can be met, whatever is asked and whichever calls that may change a lent entry are turned back
 module _ (g : Uc8253Config) where
-  lend-own : (at : World) (fs : List Fed) → Good g at → plain fs ≡ true → OwnBuffers at (lending at fs)
+  lend-own : (at : World) (fs : List Fed) → Good g at → plain (pixels g) fs ≡ true → OwnBuffers at (lending at fs)
   unfolding lending
   lend-own at [] good e = tt
   lend-own at (f ∷ fs) good e =
-      let here = lent-own at (λ a. accepts g at (record { ask = a; lent = at .lent }) good refl) f fs e in
-      (here, lend-own (next at (lendingOf at f)) fs (along g at (lendingOf at f) good (plain-byte f fs e) here .good) (plain-rest f fs e))
+      let here = lent-own at (pixels g) (λ a r. accepts g at (record { ask = a; lent = at .lent }) good refl r) f fs e in
+      (here, lend-own (next at (lendingOf at f)) fs (along g at (lendingOf at f) good (plain-byte (pixels g) f fs e) here .good) (plain-rest (pixels g) f fs e))
 
-  lend-fed : (at : World) (fs : List Fed) → Good g at → plain fs ≡ true → fedBy at (lending at fs) ≡ fs
+  lend-fed : (at : World) (fs : List Fed) → Good g at → plain (pixels g) fs ≡ true → fedBy at (lending at fs) ≡ fs
   unfolding lending fedBy
   lend-fed at [] good e = refl
   lend-fed at (f ∷ fs) good e =
-      let acc : (a : Ask) → turned at (record { ask = a; lent = at .lent }) ≡ false =
-      λ a. accepts g at (record { ask = a; lent = at .lent }) good refl in
-      let here = lent-own at acc f fs e in
-      (λ i. lent-turned at acc f fs e i ∷ lend-fed (next at (lendingOf at f)) fs
-      (along g at (lendingOf at f) good (plain-byte f fs e) here .good) (plain-rest f fs e) i)
+      let acc : (a : Ask) → roomy (pixels g) a ≡ true → turned at (record { ask = a; lent = at .lent }) ≡ false =
+      λ a r. accepts g at (record { ask = a; lent = at .lent }) good refl r in
+      let here = lent-own at (pixels g) acc f fs e in
+      (λ i. lent-turned at (pixels g) acc f fs e i ∷ lend-fed (next at (lendingOf at f)) fs
+      (along g at (lendingOf at f) good (plain-byte (pixels g) f fs e) here .good) (plain-rest (pixels g) f fs e) i)
 
 pub lendable : Lendable
 lendable g b fs gray e q = record {

@@ -17,7 +17,7 @@ use Rattle.config.specs.declared.Variant.the-variants as variant
 use Rattle.glass.specs.Walk.{hold, step, walk}
 use Rattle.controller.specs.World.{World}
 use Rattle.controller.specs.TurnedBack.{makingRefused}
-use Rattle.controller.specs.Ask.{Ask, command, datum, advance, reset, vcomRule, taking, askBusy}
+use Rattle.controller.specs.Ask.{Ask, command, datum, advance, reset, vcomRule, taking, askBusy, askPicture}
 use Rattle.walk.specs.Machine.{Fed, fresh, ran, framesFed}
 use Rattle.walk.specs.Calls.{Call, after, start, place, stateAt, framesBetween}
 use Rattle.walk.specs.OnePixel.{onePixel, bench, refreshCalls, feed, slow, driving}
@@ -29,7 +29,7 @@ abbrev no : Ask → Fed
 no a = record { ask = a; back = true }
 
 -- ---- a list on the panel of one pixel with frames of 10 ns, whatever its clock: the controller's state walks the machine's frames
-module _ (rate : ℕ) (right : badRate rate ≡ false) (story : List Fed) (fine : plain story ≡ true) where
+module _ (rate : ℕ) (right : badRate rate ≡ false) (story : List Fed) (fine : plain 1 story ≡ true) where
   abbrev panel : Uc8253Config
   panel = onePixel variant.Uc8253 10 rate
 
@@ -49,7 +49,7 @@ module _ (rate : ℕ) (right : badRate rate ≡ false) (story : List Fed) (fine 
       let between : framesBetween panel bench calls 0 j 0 ≡ ds
       = ap (λ (fs : List Fed). framesFed panel (fresh panel) (take (j - 0) fs) 0) (lent .fed)
       ∙ ap (λ (n : ℕ). framesFed panel (fresh panel) (take n story) 0) {x = j - 0} {y = j} (omega arith) ∙ e in
-      demand3 panel bench calls (lit< tt) taken (bytes-lending (start panel bench) story fine) (lent .own) 0 j (omega arith) h 0 (lit< tt) .moves
+      demand3 panel bench calls (lit< tt) taken (bytes-lending 1 (start panel bench) story fine) (lent .own) 0 j (omega arith) h 0 (lit< tt) .moves
       ∙ (λ i. pos (walk 100_000_000 (up (black-by variant.Uc8253 10 rate refl right i)) (between i)))
 
 -- ---- at 1 GHz
@@ -61,10 +61,10 @@ unfoldable story : List Fed
 story =
     map feed refreshCalls
     ++ feed (askBusy 105) ∷ no (reset 110 true) ∷ feed (advance 400)
-    ∷ feed (command 1000 0x12) ∷ feed taking ∷ feed (reset 1025 true) ∷ feed (reset 1030 false)
+    ∷ feed (command 1000 0x12) ∷ feed taking ∷ feed (askPicture 65_535 (0 ∷ [])) ∷ feed (reset 1025 true) ∷ feed (reset 1030 false)
     ∷ []
 
-fine : plain story ≡ true
+fine : plain 1 story ≡ true
 unfolding story refreshCalls
 fine = refl
 
@@ -73,9 +73,9 @@ moves-first : stateAt 0 (place (panel billion gigahertz story fine) bench (calls
 unfolding all step hold lending story refreshCalls
 moves-first = walks billion gigahertz story fine 16 (lit≤ tt) (replicate 3 (pos 140_000)) refl
 
-moves : stateAt 0 (place (panel billion gigahertz story fine) bench (calls billion gigahertz story fine) 20) ≡ pos 700_000
+moves : stateAt 0 (place (panel billion gigahertz story fine) bench (calls billion gigahertz story fine) 21) ≡ pos 700_000
 unfolding all step hold lending story refreshCalls
-moves = walks billion gigahertz story fine 20 (lit≤ tt) (replicate 5 (pos 140_000)) refl
+moves = walks billion gigahertz story fine 21 (lit≤ tt) (replicate 5 (pos 140_000)) refl
 
 -- with frames of 1,000: a reset at its end, (3 + 2) × 1,000 after its start at 100, cuts none of the three
 uncut : framesFed (slow variant.Uc8253) driving (feed (reset 5_100 true) ∷ []) 0 ≡ replicate 3 (pos 14_000_000)
@@ -93,7 +93,7 @@ rightly = rate-good odd (lit≤ tt) (lit≤ tt)
 unfoldable cutAfter : ℕ → List Fed
 cutAfter n = map feed refreshCalls ++ feed (advance 115) ∷ feed (advance 116) ∷ feed (command 1000 0x12) ∷ feed (reset n true) ∷ []
 
-fair : (n : ℕ) → plain (cutAfter n) ≡ true
+fair : (n : ℕ) → plain 1 (cutAfter n) ≡ true
 unfolding cutAfter refreshCalls
 fair n = refl
 
@@ -131,7 +131,7 @@ bothRules =
     ∷ command 1000 0x12 ∷ advance 2000
     ∷ [])
 
-sensible : plain bothRules ≡ true
+sensible : plain 1 bothRules ≡ true
 unfolding bothRules
 sensible = refl
 

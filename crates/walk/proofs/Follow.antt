@@ -17,7 +17,7 @@ use Rattle.controller.specs.DataByte.{dataByte}
 use Rattle.controller.specs.Reading as rd
 use Rattle.controller.specs.Refresh.{endedRefresh, copiedAfter, finished}
 use Rattle.controller.specs.Reset.{resetEdge}
-use Rattle.controller.specs.Ask.{Ask, command, datum, reading, advance, reset, vcomRule, taking, askBusy, askDeadline, askBit, askRow}
+use Rattle.controller.specs.Ask.{Ask, command, datum, reading, advance, reset, vcomRule, taking, askBusy, askDeadline, askBit, askRow, askPicture}
 use Rattle.controller.specs.Counting.{own}
 use Rattle.walk.specs.Machine.{whole, Out, quiet, done, reached, due, settled, commanded, given, lowered, raised, stepped}
 use Rattle.walk.specs.Kept.{Noted, Task, powersUp, powersDown, fallsAsleep, resetsSoftly}
@@ -123,6 +123,7 @@ moved (askBusy t) w = w
 moved askDeadline w = w
 moved (askBit older x y) w = w
 moved (askRow y) w = w
+moved (askPicture top wide) w = w
 
 pub apt-moved : (a : Ask) (w : World) → Apt w → Apt (moved a w)
 apt-moved (command t c) w q = apt-command c (arrived t w)
@@ -136,6 +137,7 @@ apt-moved (askBusy t) w q = q
 apt-moved askDeadline w q = q
 apt-moved (askBit older x y) w q = q
 apt-moved (askRow y) w q = q
+apt-moved (askPicture top wide) w q = q
 
 pub view-moved : (a : Ask) (w : World) → Calm (machineOf w) → Apt w → Panelled w
     → view (moved a w) ≡ drivenBy w (stepped (w .chip .config) (machineOf w) a)
@@ -160,3 +162,4 @@ view-moved (askBusy t) w c q p = refl
 view-moved askDeadline w c q p = refl
 view-moved (askBit older x y) w c q p = refl
 view-moved (askRow y) w c q p = refl
+view-moved (askPicture top wide) w c q p = refl

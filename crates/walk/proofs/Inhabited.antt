@@ -35,7 +35,7 @@ use Rattle.walk.specs.Calls.{next, result, after, Call, start, stateAt}
 use Rattle.walk.specs.OnePixel.{bench, refreshCalls, afterCalls, feed, slow, refreshing, driving, noted3}
 use Rattle.walk.specs.Table.{Refreshes, Drives, ThreeIn, ThreeNoted, lift, RefreshMet, Made8279d}
 use Rattle.walk.proofs.Seen.{jobOf, machineOf}
-use Rattle.walk.proofs.Lending.{Spares, spares, lendingOf, lending, plain, plain-byte, plain-rest, bytes-lending, lent-own, Lent}
+use Rattle.walk.proofs.Lending.{Spares, spares, lendingOf, lending, plain, plain-byte, plain-rest, plain-back, pixels, roomy, bytes-lending, lent-own, Lent}
 use Rattle.walk.proofs.Demand.{made-is, start-machine, start-good, Good, accepts}
 use Rattle.walk.proofs.Demand.{along, after-good, after-machine, after-state, lendable}
 use Rattle.walk.proofs.OnePixel.{all, taken-by, black-by}
@@ -48,23 +48,23 @@ did-whole true a w s = refl
 did-whole false a w s = ap (λ (b : Buffers). world (did a w .chip) b) (sym s)
 
 module _ (g : Uc8253Config) where
-  next-did : (at : World) (a : Ask) → Good g at → next at (lendingOf at (feed a)) ≡ did a at
+  next-did : (at : World) (a : Ask) → Good g at → roomy (pixels g) a ≡ true → next at (lendingOf at (feed a)) ≡ did a at
   unfolding next result
-  next-did at a good = rw (accepts g at (lendingOf at (feed a)) good refl) (did-whole (writes a) a at (spares a at))
+  next-did at a good r = rw (accepts g at (lendingOf at (feed a)) good refl r) (did-whole (writes a) a at (spares a at))
 
-  after-did : (asks : List Ask) (at : World) → Good g at → plain (map feed asks) ≡ true
+  after-did : (asks : List Ask) (at : World) → Good g at → plain (pixels g) (map feed asks) ≡ true
       → after at (lending at (map feed asks)) ≡ afterCalls asks at
   unfolding after lending
   after-did [] at good e = refl
   after-did (a ∷ asks) at good e =
-      let own = lent-own at (λ x. accepts g at (record { ask = x; lent = at .lent }) good refl) (feed a) (map feed asks) e in
+      let own = lent-own at (pixels g) (λ x r. accepts g at (record { ask = x; lent = at .lent }) good refl r) (feed a) (map feed asks) e in
       after-did asks (next at (lendingOf at (feed a)))
-      (along g at (lendingOf at (feed a)) good (plain-byte (feed a) (map feed asks) e) own .good) (plain-rest (feed a) (map feed asks) e)
-      ∙ ap (afterCalls asks) (next-did at a good)
+      (along g at (lendingOf at (feed a)) good (plain-byte (pixels g) (feed a) (map feed asks) e) own .good) (plain-rest (pixels g) (feed a) (map feed asks) e)
+      ∙ ap (afterCalls asks) (next-did at a good (plain-back (pixels g) (feed a) (map feed asks) e))
 
 -- after a making: the controller is as the machine is, and a pixel's state as the walk has it
 module _ (g : Uc8253Config) (b : Buffers) (gray : g .optics .«initial_gray» < 256) (e : makingRefused g b ≡ 0) where
-  module _ (asks : List Ask) (q : plain (map feed asks) ≡ true) where
+  module _ (asks : List Ask) (q : plain (pixels g) (map feed asks) ≡ true) where
     abbrev fed : List Fed
     fed = map feed asks
 
@@ -80,12 +80,12 @@ module _ (g : Uc8253Config) (b : Buffers) (gray : g .optics .«initial_gray» < 
     calls-good : Good g (afterCalls asks (made g b))
     calls-good =
         subst (λ (w : World). Good g w) is-after
-        (after-good g (start g b) calls (start-good g b gray e) (bytes-lending (start g b) fed q) (lent .own))
+        (after-good g (start g b) calls (start-good g b gray e) (bytes-lending (pixels g) (start g b) fed q) (lent .own))
 
     calls-machine : machineOf (afterCalls asks (made g b)) ≡ ran g (fresh g) fed
     calls-machine =
         ap machineOf (sym is-after)
-        ∙ after-machine g (start g b) calls (start-good g b gray e) (bytes-lending (start g b) fed q) (lent .own)
+        ∙ after-machine g (start g b) calls (start-good g b gray e) (bytes-lending (pixels g) (start g b) fed q) (lent .own)
         ∙ (λ i. ran g (start-machine g b e i) (lent .fed i))
 
     calls-state : (p : ℕ) → p < g .panel .sources * g .panel .gates
@@ -93,7 +93,7 @@ module _ (g : Uc8253Config) (b : Buffers) (gray : g .optics .«initial_gray» < 
         ≡ pos (walk (g .optics .«full_swing») (up (stateAt p (made g b))) (framesFed g (fresh g) fed p))
     calls-state p h =
         ap (stateAt p) (sym is-after)
-        ∙ after-state g (start g b) calls p (start-good g b gray e) (bytes-lending (start g b) fed q) (lent .own) h
+        ∙ after-state g (start g b) calls p (start-good g b gray e) (bytes-lending (pixels g) (start g b) fed q) (lent .own) h
         ∙ (λ i. pos (walk (g .optics .«full_swing») (up (stateAt p (start g b))) (framesFed g (start-machine g b e i) (lent .fed i) p)))
 
 -- ---- where the machine drives, the controller refreshes
@@ -157,8 +157,8 @@ taken : (v : Variant) → makingRefused (slow v) bench ≡ 0
 unfolding slow
 taken v = taken-by v 1_000 billion refl (rate-good billion (lit≤ tt) (lit≤ tt))
 
-fine : plain (map feed refreshCalls) ≡ true
-unfolding refreshCalls
+fine : plain (pixels g) (map feed refreshCalls) ≡ true
+unfolding slow refreshCalls
 fine = refl
 
 -- the machine, run by the checker

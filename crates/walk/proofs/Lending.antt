@@ -19,7 +19,7 @@ use Rattle.controller.specs.Calls as calls
 use Rattle.controller.specs.Sound.{Sound}
 use Rattle.controller.proofs.TurnedAway.{did-no}
 use Rattle.walk.specs.Machine.{Fed}
-use Rattle.controller.specs.Ask.{Ask, command, datum, reading, advance, reset, vcomRule, taking, askBusy, askDeadline, askBit, askRow}
+use Rattle.controller.specs.Ask.{Ask, command, datum, reading, advance, reset, vcomRule, taking, askBusy, askDeadline, askBit, askRow, askPicture}
 use Rattle.walk.specs.Calls.{Call, handed, result, turned, next, OwnFor, OwnBuffers, IsByte, Bytes, fedAt, fedBy, start}
 use Rattle.controller.specs.Ask.{did, refusedBy, writes}
 use Rattle.walk.proofs.Seen.{jobOf, machineOf, Panelled}
@@ -40,6 +40,7 @@ did-yes (askBusy t) w e = refl
 did-yes askDeadline w e = refl
 did-yes (askBit older x y) w e = refl
 did-yes (askRow y) w e = refl
+did-yes (askPicture top wide) w e = refl
 
 -- taking the rows and the questions change no lent entry, and look at the record alone
 abbrev pub Spares : Bool → Ask → World → Type 0
@@ -59,6 +60,7 @@ spares (askBusy t) w = refl
 spares askDeadline w = refl
 spares (askBit older x y) w = refl
 spares (askRow y) w = refl
+spares (askPicture top wide) w = refl
 
 -- the place after an accepted call
 place-on : (a : Ask) (at : World) (l : Buffers) (t : Bool) → t ≡ false → (writes a ≡ true → l ≡ at .lent)
@@ -74,6 +76,7 @@ place-on (askBusy t) at l q e own = rw e
 place-on askDeadline at l q e own = rw e
 place-on (askBit older x y) at l q e own = rw e
 place-on (askRow y) at l q e own = rw e
+place-on (askPicture top wide) at l q e own = rw e
 
 -- ---- a call is turned back or accepted
 pub data Gone (at : World) (c : Call) : Type 0 where
@@ -118,6 +121,24 @@ refused-leaves at c e =
     by-cases (eqb (refusedBy (c .ask) (handed at c)) 0)
     (λ y. absurd (true≢false (sym e ∙ turned-no at c y)))
     (λ n. (ap (λ (w : World). w .chip) (did-no (c .ask) (handed at c) n), ap (λ (w : World). w .lent) (did-no (c .ask) (handed at c) n)))
+
+-- ---- a question's own buffer, if it has one, has an entry for each pixel
+abbrev pub pixels : Uc8253Config → ℕ
+pixels g = g .panel .sources * g .panel .gates
+
+abbrev pub roomy : ℕ → Ask → Bool
+roomy n (command t c) = true
+roomy n (datum t b) = true
+roomy n (reading t) = true
+roomy n (advance t) = true
+roomy n (reset t asserted) = true
+roomy n (vcomRule t x) = true
+roomy n taking = true
+roomy n (askBusy t) = true
+roomy n askDeadline = true
+roomy n (askBit older x y) = true
+roomy n (askRow y) = true
+roomy n (askPicture top wide) = eqb (length wide) n
 
 -- ---- what a sound world has
 and-left : (a b : Bool) → (a && b) ≡ true → a ≡ true
@@ -193,19 +214,20 @@ module _ (home : (w : World) → Sound w → foreignRecord (w .chip) ≡ false) 
   take-accepted w s = lent-accepted w s _ (lengths w (s .fits) .rows)
 
   pub sound-accepted : ((asserted : Bool) (t : ℕ) (w : World) → Sound w → turnedBack asserted t w ≡ 0) → (a : Ask) (w : World) → Sound w
-      → refusedBy a w ≡ 0
-  unfolding calls.questionRefused calls.bitRefused calls.rowRefused
-  sound-accepted never (command t c) w s = never false t w s
-  sound-accepted never (datum t b) w s = never false t w s
-  sound-accepted never (reading t) w s = never false t w s
-  sound-accepted never (advance t) w s = never false t w s
-  sound-accepted never (reset t asserted) w s = never asserted t w s
-  sound-accepted never (vcomRule t x) w s = never false t w s
-  sound-accepted never taking w s = take-accepted w s
-  sound-accepted never (askBusy t) w s = lent-accepted w s true refl
-  sound-accepted never askDeadline w s = lent-accepted w s true refl
-  sound-accepted never (askBit older x y) w s = lent-accepted w s _ (plane-long older w (lengths w (s .fits)))
-  sound-accepted never (askRow y) w s = lent-accepted w s _ (lengths w (s .fits) .picture)
+      → roomy (pixels (w .chip .config)) a ≡ true → refusedBy a w ≡ 0
+  unfolding calls.questionRefused calls.bitRefused calls.rowRefused calls.wideRefused
+  sound-accepted never (command t c) w s r = never false t w s
+  sound-accepted never (datum t b) w s r = never false t w s
+  sound-accepted never (reading t) w s r = never false t w s
+  sound-accepted never (advance t) w s r = never false t w s
+  sound-accepted never (reset t asserted) w s r = never asserted t w s
+  sound-accepted never (vcomRule t x) w s r = never false t w s
+  sound-accepted never taking w s r = take-accepted w s
+  sound-accepted never (askBusy t) w s r = lent-accepted w s true refl
+  sound-accepted never askDeadline w s r = lent-accepted w s true refl
+  sound-accepted never (askBit older x y) w s r = lent-accepted w s _ (plane-long older w (lengths w (s .fits)))
+  sound-accepted never (askRow y) w s r = lent-accepted w s _ (lengths w (s .fits) .picture)
+  sound-accepted never (askPicture top wide) w s r = rw (home w s, lengths w (s .fits) .states, r, s .states)
 
 -- ---- lists that can be: the calls that are to be turned back are lent empty buffers, the others the place's own
 abbrev pub noBuffers : Buffers
@@ -218,7 +240,7 @@ unfoldable pub lending : World → List Fed → List Call
 lending at [] = []
 lending at (f ∷ fs) = lendingOf at f ∷ lending (next at (lendingOf at f)) fs
 
--- bytes are bytes, and what is to be turned back may change a lent entry
+-- bytes are bytes; what is to be turned back may change a lent entry, and what is not has room in its own buffer
 abbrev pub isByte : Ask → Bool
 isByte (command t c) = ltb c 256
 isByte (datum t b) = ltb b 256
@@ -231,10 +253,11 @@ isByte (askBusy t) = true
 isByte askDeadline = true
 isByte (askBit older x y) = true
 isByte (askRow y) = true
+isByte (askPicture top wide) = true
 
-abbrev pub plain : List Fed → Bool
-plain [] = true
-plain (f ∷ fs) = (isByte (f .ask) && pick (f .back) (writes (f .ask)) true) && plain fs
+abbrev pub plain : ℕ → List Fed → Bool
+plain n [] = true
+plain n (f ∷ fs) = (isByte (f .ask) && pick (f .back) (writes (f .ask)) (roomy n (f .ask))) && plain n fs
 
 is-byte : (a : Ask) → isByte a ≡ true → IsByte a
 is-byte (command t c) e = ltb-true c 256 e
@@ -248,20 +271,22 @@ is-byte (askBusy t) e = tt
 is-byte askDeadline e = tt
 is-byte (askBit older x y) e = tt
 is-byte (askRow y) e = tt
+is-byte (askPicture top wide) e = tt
 
-pub plain-byte : (f : Fed) (fs : List Fed) → plain (f ∷ fs) ≡ true → IsByte (f .ask)
-plain-byte f fs e = is-byte (f .ask) (and-left _ (pick (f .back) (writes (f .ask)) true) (and-left _ (plain fs) e))
+module _ (n : ℕ) (f : Fed) (fs : List Fed) (e : plain n (f ∷ fs) ≡ true) where
+  pub plain-byte : IsByte (f .ask)
+  plain-byte = is-byte (f .ask) (and-left _ (pick (f .back) (writes (f .ask)) (roomy n (f .ask))) (and-left _ (plain n fs) e))
 
-pub plain-rest : (f : Fed) (fs : List Fed) → plain (f ∷ fs) ≡ true → plain fs ≡ true
-plain-rest f fs e = and-right (isByte (f .ask) && pick (f .back) (writes (f .ask)) true) (plain fs) e
+  pub plain-rest : plain n fs ≡ true
+  plain-rest = and-right (isByte (f .ask) && pick (f .back) (writes (f .ask)) (roomy n (f .ask))) (plain n fs) e
 
-plain-back : (f : Fed) (fs : List Fed) → plain (f ∷ fs) ≡ true → pick (f .back) (writes (f .ask)) true ≡ true
-plain-back f fs e = and-right (isByte (f .ask)) _ (and-left _ (plain fs) e)
+  pub plain-back : pick (f .back) (writes (f .ask)) (roomy n (f .ask)) ≡ true
+  plain-back = and-right (isByte (f .ask)) _ (and-left _ (plain n fs) e)
 
-pub bytes-lending : (at : World) (fs : List Fed) → plain fs ≡ true → Bytes (lending at fs)
+pub bytes-lending : (n : ℕ) (at : World) (fs : List Fed) → plain n fs ≡ true → Bytes (lending at fs)
 unfolding lending
-bytes-lending at [] e = tt
-bytes-lending at (f ∷ fs) e = (plain-byte f fs e, bytes-lending (next at (lendingOf at f)) fs (plain-rest f fs e))
+bytes-lending n at [] e = tt
+bytes-lending n at (f ∷ fs) e = (plain-byte n f fs e, bytes-lending n (next at (lendingOf at f)) fs (plain-rest n f fs e))
 
 -- lent nothing, a call that may change a lent entry is turned back
 lent-none : (asserted : Bool) (t : ℕ) (p : Uc8253) → eqb (turnedBack asserted t (world p noBuffers)) 0 ≡ false
@@ -281,24 +306,26 @@ turned-none (askBusy t) at e = absurd (true≢false (sym e))
 turned-none askDeadline at e = absurd (true≢false (sym e))
 turned-none (askBit older x y) at e = absurd (true≢false (sym e))
 turned-none (askRow y) at e = absurd (true≢false (sym e))
+turned-none (askPicture top wide) at e = absurd (true≢false (sym e))
 
 -- one call of it, where a call lent the place's buffers is accepted
-module _ (at : World) (accepts : (a : Ask) → turned at (record { ask = a; lent = at .lent }) ≡ false) where
-  turned-by : (a : Ask) (b : Bool) → pick b (writes a) true ≡ true → turned at (record { ask = a; lent = pick b noBuffers (at .lent) }) ≡ b
+module _ (at : World) (n : ℕ) (accepts : (a : Ask) → roomy n a ≡ true → turned at (record { ask = a; lent = at .lent }) ≡ false) where
+  turned-by : (a : Ask) (b : Bool) → pick b (writes a) (roomy n a) ≡ true
+      → turned at (record { ask = a; lent = pick b noBuffers (at .lent) }) ≡ b
   turned-by a true e = turned-none a at e
-  turned-by a false e = accepts a
+  turned-by a false e = accepts a e
 
-  own-by : (t : Bool) (a : Ask) (b : Bool) → pick b (writes a) true ≡ true
+  own-by : (t : Bool) (a : Ask) (b : Bool) → pick b (writes a) (roomy n a) ≡ true
       → OwnFor t at (record { ask = a; lent = pick b noBuffers (at .lent) })
   own-by false a b e = tt
   own-by true a false e = λ q. refl
   own-by true a true e = λ q. absurd (true≢false (sym (turned-none a at e) ∙ q))
 
-  pub lent-turned : (f : Fed) (fs : List Fed) → plain (f ∷ fs) ≡ true → fedAt at (lendingOf at f) ≡ f
-  lent-turned f fs e = ap (λ (b : Bool). record { ask = f .ask; back = b }) (turned-by (f .ask) (f .back) (plain-back f fs e))
+  pub lent-turned : (f : Fed) (fs : List Fed) → plain n (f ∷ fs) ≡ true → fedAt at (lendingOf at f) ≡ f
+  lent-turned f fs e = ap (λ (b : Bool). record { ask = f .ask; back = b }) (turned-by (f .ask) (f .back) (plain-back n f fs e))
 
-  pub lent-own : (f : Fed) (fs : List Fed) → plain (f ∷ fs) ≡ true → OwnFor (writes (f .ask)) at (lendingOf at f)
-  lent-own f fs e = own-by (writes (f .ask)) (f .ask) (f .back) (plain-back f fs e)
+  pub lent-own : (f : Fed) (fs : List Fed) → plain n (f ∷ fs) ≡ true → OwnFor (writes (f .ask)) at (lendingOf at f)
+  lent-own f fs e = own-by (writes (f .ask)) (f .ask) (f .back) (plain-back n f fs e)
 
 -- calls that lend so meet the condition on what is lent, and the walk is fed just this list
 pub record Lent (g : Uc8253Config) (b : Buffers) (fs : List Fed) : Type 0 where
@@ -306,7 +333,8 @@ pub record Lent (g : Uc8253Config) (b : Buffers) (fs : List Fed) : Type 0 where
   pub fed : fedBy (start g b) (lending (start g b) fs) ≡ fs
 
 -- so it is, after an accepted making, with each list whose bytes are bytes and in which only calls that may change a lent entry are
--- turned back; lists in which the taking of the rows or a question is turned back are left out
+-- turned back; lists in which the taking of the rows or a question is turned back are left out, a question too whose own buffer does
+-- not fit
 abbrev pub Lendable : Type 0
-Lendable = (g : Uc8253Config) (b : Buffers) (fs : List Fed) → g .optics .«initial_gray» < 256 → makingRefused g b ≡ 0 → plain fs ≡ true
-    → Lent g b fs
+Lendable = (g : Uc8253Config) (b : Buffers) (fs : List Fed) → g .optics .«initial_gray» < 256 → makingRefused g b ≡ 0
+    → plain (pixels g) fs ≡ true → Lent g b fs

@@ -16,7 +16,7 @@ use Rattle.controller.specs.World.{World, Buffers, world}
 use Rattle.controller.specs.TurnedBack.{makingRefused}
 use Rattle.controller.specs.Calls.{made}
 use Rattle.walk.specs.Machine.{Fed, fresh, ran, framesFed}
-use Rattle.controller.specs.Ask.{Ask, command, datum, reading, advance, reset, vcomRule, taking, askBusy, askDeadline, askBit, askRow}
+use Rattle.controller.specs.Ask.{Ask, command, datum, reading, advance, reset, vcomRule, taking, askBusy, askDeadline, askBit, askRow, askPicture}
 use Rattle.controller.specs.Ask.{did, refusedBy, writes}
 
 -- a call of the list: its kind and arguments, and the buffers that it is lent
@@ -67,6 +67,7 @@ IsByte (askBusy t) = Unit {0}
 IsByte askDeadline = Unit {0}
 IsByte (askBit older x y) = Unit {0}
 IsByte (askRow y) = Unit {0}
+IsByte (askPicture top wide) = Unit {0}
 
 abbrev pub Bytes : List Call → Type 0
 Bytes [] = Unit {0}

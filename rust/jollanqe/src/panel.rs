@@ -352,6 +352,41 @@ impl Panel {
         bytes
     }
 
+    /// The picture at a top of its own into `wide`, an entry a pixel, 0 black to `top` white; a top of 0
+    /// stands for 255. It is drawn from the states: before the first refresh has ended, at top 255 too,
+    /// it may be another than [`Panel::picture`]. Refused by 6, by 5 where `wide` or the states have
+    /// not sources × gates entries, by 7 for a state out of range; nothing has changed then.
+    pub fn picture_at(&self, top: u16, wide: &mut [u16]) -> Result<(), Refused> {
+        let states = &self.0.states;
+        // SAFETY: each pointer and length are those of one slice, and the two do not overlap.
+        let asked = unsafe {
+            raw::jollanqe_picture(
+                self.0.record,
+                states.as_ptr(),
+                states.len(),
+                wide.as_mut_ptr(),
+                wide.len(),
+                top,
+            )
+        };
+        Refused::test(asked.refused)
+    }
+
+    /// The picture at a top as a binary graymap (Netpbm P5), whose maxval it is: a byte a pixel up to
+    /// 255, else two, the higher first.
+    pub fn graymap_at(&self, top: u16) -> Result<Vec<u8>, Refused> {
+        let mut wide = vec![0; self.0.states.len()];
+        self.picture_at(top, &mut wide)?;
+        let (image, maxval) = (self.image(), if top == 0 { 255 } else { top });
+        let mut bytes = format!("P5\n{} {}\n{maxval}\n", image.width, image.height).into_bytes();
+        let skipped = usize::from(maxval <= 255);
+        bytes.extend(
+            wide.iter()
+                .flat_map(|grey| grey.to_be_bytes().into_iter().skip(skipped)),
+        );
+        Ok(bytes)
+    }
+
     /// The controller's record, to look at.
     #[must_use]
     pub fn record(&self) -> &Record {

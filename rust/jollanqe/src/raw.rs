@@ -484,4 +484,14 @@ unsafe extern "C" {
         x: u16,
         y: u16,
     ) -> Asked;
+
+    /// The picture of the states at a top, 0 standing for 255, into the lent entries.
+    pub fn jollanqe_picture(
+        chip: Record,
+        states: *const i64,
+        states_length: usize,
+        wide: *mut u16,
+        wide_length: usize,
+        top: u16,
+    ) -> Asked;
 }

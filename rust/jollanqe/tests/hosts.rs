@@ -293,6 +293,78 @@ fn vcom_goes_by_frame_or_by_phase() {
     );
 }
 
+/// The grey of a state at a top, in 128 bits.
+fn grey(state: i64, top: u16) -> u16 {
+    let (state, top) = (state as u128, u128::from(top));
+    ((2 * state * top + u128::from(SWING)) / (2 * u128::from(SWING))) as u16
+}
+
+#[test]
+fn a_picture_at_a_top_is_drawn_from_the_states() {
+    let mut parts = refreshing().into_parts();
+    parts.states = vec![
+        0, 1, 213, 214, 9_999_999, 14_000_000, 27_999_999, 28_000_000,
+    ];
+    let panel = Panel::from_parts(parts.clone());
+    for top in [1, 2, 255, 256, 32_768, 65_535] {
+        let mut wide = [7; 8];
+        assert_eq!(panel.picture_at(top, &mut wide), Ok(()));
+        let must: Vec<u16> = parts.states.iter().map(|&at| grey(at, top)).collect();
+        assert_eq!(wide[..], must);
+    }
+    let (mut at_0, mut at_255) = ([7; 8], [8; 8]);
+    assert_eq!(panel.picture_at(0, &mut at_0), Ok(()));
+    assert_eq!(panel.picture_at(255, &mut at_255), Ok(()));
+    assert_eq!(at_0, at_255);
+    assert_eq!(*panel.parts(), parts);
+}
+
+#[test]
+fn at_top_255_it_is_the_picture_after_a_refresh() {
+    let mut panel = refreshing();
+    panel.advance(3_100).expect("taken");
+    assert_eq!(panel.graymap_at(255), Ok(panel.graymap()));
+    assert_eq!(panel.graymap_at(0), Ok(panel.graymap()));
+    let wide = [&b"P5\n8 1\n65535\n"[..], &[0x80, 0].repeat(4), &[0; 8]].concat();
+    assert_eq!(panel.graymap_at(65_535), Ok(wide));
+    // right after making the picture is the initial grey, and the state the nearest below it
+    let made = Panel::new(&Configuration {
+        full_swing: 3,
+        initial_grey: 200,
+        ..small()
+    });
+    let (panel, mut wide) = (made.expect("made"), [0; 8]);
+    assert_eq!(panel.picture(), [200; 8]);
+    assert_eq!(panel.picture_at(255, &mut wide), Ok(()));
+    assert_eq!(wide, [170; 8]);
+}
+
+#[test]
+fn a_picture_at_a_top_is_refused_by_6_5_and_7() {
+    let sound = refreshing().into_parts();
+    let asked = |change: fn(&mut Parts), length: usize| {
+        let mut parts = sound.clone();
+        change(&mut parts);
+        let (panel, mut wide) = (Panel::from_parts(parts), vec![7; length]);
+        let number = numbers(panel.picture_at(65_535, &mut wide)).0;
+        assert!(number == 0 || wide == vec![7; length]);
+        number
+    };
+    assert_eq!(asked(|_| (), 8), 0);
+    for length in [0, 7, 9] {
+        assert_eq!(asked(|_| (), length), 5);
+    }
+    assert_eq!(asked(|parts| parts.states.truncate(7), 8), 5);
+    assert_eq!(asked(|parts| parts.states.push(0), 8), 5);
+    assert_eq!(asked(|parts| parts.record.regs.start.h = 1_024, 7), 6);
+    assert_eq!(asked(|parts| parts.states[7] = -1, 8), 7);
+    assert_eq!(asked(|parts| parts.states[0] = SWING as i64 + 1, 8), 7);
+    assert_eq!(asked(|parts| parts.states[0] = -1, 9), 5);
+    // what it is not lent it does not test
+    assert_eq!(asked(|parts| parts.numbers[0] = 9, 8), 0);
+    assert_eq!(asked(|parts| parts.picture.clear(), 8), 0);
+}
+
 #[test]
 fn a_capture_is_written_and_read() {
     let whats = [What::Read, What::Reset(true), What::VcomByFrame(true)];

@@ -1,32 +1,27 @@
 -- `glass::gray` meets its contract. Below 2 ^ 54 the formula's own numbers fit 64 bits.
 use borrow.Author.Needs.{needs}
-use Prim.Native.Nat.{ℕ, _+_, _*_, _/_}
-use mathlib.Core.Path.{_≡_, ap}
+use Prim.Native.Nat.{_+_, _*_}
 use native.Mathlib.Nat.{div-zero}
 use native.Mathlib.Omega.{arith}
-use Rattle.glass.proofs.GrayLaws.{rounded, rounded-fits, gray-white}
+use Rattle.glass.proofs.GrayLaws.{quotient, rounded-fits, gray-white}
 use Rattle.glass.proofs.gray.Statement.{statement}
 use Rattle.glass.proofs.gray.Tie as tie
-
--- the code's quotient is the definition's
-quotient : (x s : ℕ) → (510 * x + s) / (2 * s) ≡ rounded x s
-quotient x s = ap (λ (n : ℕ). n / (2 * s)) (omega arith)
 
 returns : tie.Need-returns
 returns c = rw (c .if2 .taken) (omega (arith, div-zero (2 * (c .before .before .args .state * 255) + 0)))
 
 returns-2 : tie.Need-returns-2
-returns-2 c = gray-white (c .before .before .args .state) (c .before .before .args .swing) (omega arith) (omega arith)
+returns-2 c = gray-white 255 (c .before .before .args .state) (c .before .before .args .swing) (omega arith) (omega arith)
 
 cast-result : tie.Need-cast-result
 cast-result c =
-    let s = c .before .before in
-    record { fits = omega (arith, quotient (s .args .state) (s .args .swing), rounded-fits (s .args .state) (s .args .swing) (omega arith) (omega arith)) }
+    let a = c .before .before .args in
+    record { fits = omega (arith, quotient 255 (a .state) (a .swing), rounded-fits 255 (a .state) (a .swing) (omega arith) (omega arith)) }
 
 returns-3 : tie.Need-returns-3
 returns-3 c =
-    let s = c .before .before in
-    omega (arith, quotient (s .args .state) (s .args .swing), rounded-fits (s .args .state) (s .args .swing) (omega arith) (omega arith))
+    let a = c .before .before .args in
+    omega (arith, quotient 255 (a .state) (a .swing), rounded-fits 255 (a .state) (a .swing) (omega arith) (omega arith))
 
 pub gray-spec : {M : Type 1} → statement M
 gray-spec =
@@ -40,5 +35,6 @@ gray-spec =
     (λ c. search needs)
     cast-result
     (λ c κs. search needs)
+    (λ c. search needs)
     returns-3
     (λ c. search needs))

@@ -3,6 +3,7 @@ use mathlib.Core.Path.{sym}
 use borrow.Author.Needs.{needs}
 use native.Mathlib.Omega.{arith}
 use denote.Ref.{now}
+use Rattle.pixels.specs.InnerGuess.{white}
 use Rattle.pixels.proofs.GuessLaws.{confirmed, product, guess}
 use Rattle.pixels.proofs.shade.Statement.{statement}
 use Rattle.pixels.proofs.shade.Tie as tie
@@ -10,12 +11,12 @@ use Rattle.pixels.proofs.shade.Tie as tie
 mul-q : tie.Need-mul-q
 mul-q c =
     let s = c .before .before .before .before .before in
-    record { fits = omega (arith, product (s .args .scale) _ (s .pre .0) (c .before .if1 .taken)) }
+    record { fits = omega (arith, product (s .args .scale) _ white (s .pre .0) (c .before .if1 .taken)) }
 
 add-q : tie.Need-add-q
 add-q c =
     let s = c .before .before .before .before .before in
-    record { fits = omega (arith, product (s .args .scale) _ (s .pre .0) (c .before .if1 .taken)) }
+    record { fits = omega (arith, product (s .args .scale) _ white (s .pre .0) (c .before .if1 .taken)) }
 
 mul-if2 : tie.Need-mul-if2
 mul-if2 c =

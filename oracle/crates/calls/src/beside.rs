@@ -11,6 +11,7 @@ use oracle::log::Log;
 use oracle::refusal::Refusal;
 use oracle::rows::{self, KIND_WORDS};
 use oracle::run;
+use oracle::tops::Shades;
 use oracle::vcom::Rule;
 
 use crate::difference::{Difference, same};
@@ -19,6 +20,8 @@ use crate::steps::Step;
 
 /// Up to so many pixels the picture is compared after every event, else after each refresh.
 const SMALL_PICTURE: usize = 2_048;
+/// At which tops the picture of such a panel is asked for when a trace ends, in turn.
+const TOPS: [u16; 7] = [65_535, 0, 1, 255, 256, 4_095, 65_534];
 /// What an entry of a run's answers holds before: no answer.
 const UNANSWERED: u16 = u16::MAX;
 
@@ -206,9 +209,10 @@ impl Beside {
         self.compare_rows()
     }
 
-    /// The end of a trace: every bit, every pixel, every row.
+    /// The end of a trace: every bit, every pixel, every row; of a small panel the picture at a top.
     pub fn end(&mut self) -> Result<(), Difference> {
         self.compare_whole()?;
+        self.compare_top()?;
         self.take()
     }
 
@@ -272,6 +276,17 @@ impl Beside {
         let pixel = (0..rust.len()).find(|&pixel| ours.get(pixel) != rust.get(pixel));
         let grey = |of: &[u8]| pixel.map(|pixel| (pixel, of.get(pixel).copied()));
         same("pixel", grey(ours), grey(rust))
+    }
+
+    fn compare_top(&self) -> Result<(), Difference> {
+        let top = TOPS[self.turn % TOPS.len()];
+        let mut wide = vec![0; self.ours.picture().len()];
+        if wide.len() > SMALL_PICTURE {
+            return Ok(());
+        }
+        self.ours.picture_at(top, &mut wide)?;
+        let shades = Shades::of(&self.rust, top);
+        same("picture at a top", (top, &wide[..]), (top, shades.greys()))
     }
 
     fn compare_whole(&self) -> Result<(), Difference> {

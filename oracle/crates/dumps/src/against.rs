@@ -28,8 +28,10 @@ const MOST_IN_PIECES: usize = 60_000;
 
 fn form(rng: &mut Rng) -> Form {
     match rng.below(10) {
-        0 => Form::Pgm,
-        1 => Form::Png,
+        0 => Form::Pgm(None),
+        1 => Form::Png(None),
+        2 => Form::Pgm(Some(rng.pick(&[0, 1, 255, 256, 4_095, 65_535]))),
+        3 => Form::Png(Some(rng.pick(&[0, 255, 65_535]))),
         _ => Form::Lines,
     }
 }
@@ -142,7 +144,7 @@ pub fn fuzz(program: &Path, seconds: u64, seed: u64) -> io::Result<bool> {
 
 /// The dumps made by hand, by the answers that were written down, and the real ones of a folder.
 pub fn made(program: &Path, folder: &Path) -> io::Result<bool> {
-    let mut jobs: Vec<Job> = cases::all().into_iter().map(Job::made).collect();
+    let mut jobs = cases::jobs();
     jobs.extend(real::jobs(folder)?);
     let mut left = Some(jobs);
     batches(program, || Ok(left.take()))
@@ -155,7 +157,8 @@ fn in_pieces(program: &Program, job: &Job, size: usize) -> io::Result<Vec<u8>> {
     let (near, far) = UnixDatagram::pair()?;
     let child = program
         .command()
-        .args(["vcd", "0.config", "-", job.form().word()])
+        .args(["vcd", "0.config", "-"])
+        .args(job.form().words().split(' '))
         .stdin(Stdio::from(OwnedFd::from(far)))
         .spawn()?;
     for piece in job.dump.chunks(size).chain([&[][..]]) {
@@ -176,7 +179,7 @@ pub fn pieces(program: &Path, count: u64, seed: u64) -> io::Result<bool> {
     let program = Program::by(program)?;
     let mut tally = Tally::default();
     let mut rng = Rng::new(seed);
-    let made = cases::all().into_iter().map(Job::made);
+    let made = cases::jobs().into_iter();
     for job in made.chain((seed..seed + count).map(generated)) {
         if job.dump.len() > MOST_IN_PIECES {
             continue;

@@ -54,14 +54,13 @@ impl Job {
     }
 
     /// A dump made by hand, with what must be written by the answer that was written down.
-    pub fn made(case: Case) -> Job {
-        let expected = case.lines();
+    pub fn made(case: &Case, form: Form) -> Job {
         Job::answered(
-            case.name,
-            case.configuration,
-            case.dump,
-            Form::Lines,
-            expected,
+            case.name.clone(),
+            case.configuration.clone(),
+            case.dump.clone(),
+            form,
+            case.written(form),
         )
     }
 
@@ -83,13 +82,13 @@ impl Job {
     }
 
     fn line(&self, index: usize) -> String {
-        let word = self.form.word();
+        let words = self.form.words();
         let file = if self.has_file {
             format!(" > {index}.out")
         } else {
             String::new()
         };
-        format!("vcd {index}.config {index}.vcd {word}{file}\n")
+        format!("vcd {index}.config {index}.vcd {words}{file}\n")
     }
 
     /// What of it comes on standard output.
@@ -124,7 +123,7 @@ pub fn write(folder: &Path, jobs: &[Job]) -> io::Result<()> {
             fs::write(data.join(format!("{name}.config")), &job.configuration)?;
         }
         fs::write(data.join(format!("{name}.vcd")), &job.dump)?;
-        lines += &format!("vcd {panel}.config {name}.vcd {}\n", job.form.word());
+        lines += &format!("vcd {panel}.config {name}.vcd {}\n", job.form.words());
         output.extend(&job.expected);
     }
     fs::write(folder.join("stdin"), lines)?;

@@ -4,31 +4,40 @@ use chips::uc8253::PanelImage;
 use oracle::capture::{CONFIGURATION_BYTES, Configuration, Event};
 use oracle::chip::Chip;
 use oracle::refusal::Refusal;
+use oracle::tops::Shades;
 use oracle::{picture, png, run};
 
 use crate::signals;
 
-/// What a job asks for.
+/// What a job asks for; of a picture, perhaps its top.
 #[derive(Clone, Copy, Debug, PartialEq, Eq)]
 pub enum Form {
     Lines,
-    Pgm,
-    Png,
+    Pgm(Option<u16>),
+    Png(Option<u16>),
 }
 
 impl Form {
-    pub fn word(self) -> &'static str {
+    pub fn words(self) -> String {
         match self {
-            Form::Lines => "lines",
-            Form::Pgm => "pgm",
-            Form::Png => "png",
+            Form::Lines => "lines".to_string(),
+            Form::Pgm(None) => "pgm".to_string(),
+            Form::Png(None) => "png".to_string(),
+            Form::Pgm(Some(top)) => format!("pgm {top}"),
+            Form::Png(Some(top)) => format!("png {top}"),
         }
     }
 
-    pub fn of(word: &str) -> Option<Form> {
-        [Form::Lines, Form::Pgm, Form::Png]
-            .into_iter()
-            .find(|form| form.word() == word)
+    /// The form of so many words; a PNG file's white is 255, for which 0 stands, or 65,535.
+    pub fn of(words: &[&str]) -> Option<Form> {
+        match words {
+            [] | ["lines"] => Some(Form::Lines),
+            ["pgm"] => Some(Form::Pgm(None)),
+            ["png"] => Some(Form::Png(None)),
+            ["pgm", top] => Some(Form::Pgm(Some(top.parse().ok()?))),
+            ["png", top @ ("0" | "255" | "65535")] => Some(Form::Png(Some(top.parse().ok()?))),
+            _ => None,
+        }
     }
 }
 
@@ -52,16 +61,26 @@ pub fn accept(configuration: &[u8], dump: &[u8]) -> Result<(Chip, Vec<Event>), u
 }
 
 fn png(image: &PanelImage) -> Vec<u8> {
-    png::file(image.width, image.height, &image.pixels)
+    png::file(image.width, image.height, 8, &image.pixels)
+}
+
+/// What a panel shows at a top after these events.
+fn shades(mut chip: Chip, events: &[Event], top: u16) -> Shades {
+    for &event in events {
+        run::step(&mut chip, event);
+    }
+    Shades::of(&chip, top)
 }
 
 /// What is written for a panel that meets these events.
 pub fn played(chip: Chip, events: &[Event], form: Form) -> Vec<u8> {
-    let outcome = run::events(chip, events, |_, _, _| ());
+    let outcome = |chip| run::events(chip, events, |_, _, _| ());
     match form {
-        Form::Lines => run::report(&outcome).into_bytes(),
-        Form::Pgm => picture::graymap(&outcome.image),
-        Form::Png => png(&outcome.image),
+        Form::Lines => run::report(&outcome(chip)).into_bytes(),
+        Form::Pgm(None) => picture::graymap(&outcome(chip).image),
+        Form::Png(None) => png(&outcome(chip).image),
+        Form::Pgm(Some(top)) => shades(chip, events, top).graymap(),
+        Form::Png(Some(top)) => shades(chip, events, top).png(),
     }
 }
 

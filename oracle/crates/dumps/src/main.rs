@@ -7,7 +7,7 @@ use std::process::ExitCode;
 
 use dumps::{against, cases, judge, list, make, page, real, stand_in, stats};
 
-const USAGE: &str = "usage: dumps vcd CONFIG FILE [lines | pgm | png]
+const USAGE: &str = "usage: dumps vcd CONFIG FILE [lines | pgm [TOP] | png [TOP]]
        dumps list FILE
        dumps make SEED DIR
        dumps stats SEED N
@@ -49,9 +49,8 @@ fn made(seed: u64, folder: &Path) -> io::Result<()> {
 fn obey(words: &[&str]) -> io::Result<Option<bool>> {
     match words {
         [] => stand_in::batch()?,
-        ["vcd", configuration, file] => say(stand_in::vcd(configuration, file, None)?)?,
-        ["vcd", configuration, file, form] => {
-            say(stand_in::vcd(configuration, file, Some(form))?)?;
+        ["vcd", configuration, file, form @ ..] => {
+            say(stand_in::vcd(configuration, file, form)?)?;
         }
         ["list", file] => say(list::list(&fs::read(file)?))?,
         ["make", seed, folder] => made(number(seed)?, Path::new(folder))?,

@@ -138,7 +138,7 @@ pub fn write(seed: u64, folder: &Path) -> io::Result<()> {
     fs::write(folder.join("page.config"), &page.configuration)?;
     fs::write(folder.join("page.vcd"), &page.dump)?;
     fs::write(folder.join("page.out"), output(Form::Lines))?;
-    fs::write(folder.join("page.png"), output(Form::Png))?;
+    fs::write(folder.join("page.png"), output(Form::Png(None)))?;
     println!("{} bytes, {} events", page.dump.len(), page.events.len());
     Ok(())
 }

@@ -8,10 +8,9 @@ use crate::judge::{self, Form};
 
 const CHUNK: usize = 65_536;
 
-/// What `vcd CONFIG FILE [lines | pgm | png]` writes; `-` is standard input.
-pub fn vcd(configuration: &str, file: &str, form: Option<&str>) -> io::Result<Vec<u8>> {
-    let form =
-        Form::of(form.unwrap_or("lines")).ok_or_else(|| io::Error::other("lines, pgm or png"))?;
+/// What `vcd CONFIG FILE [lines | pgm [TOP] | png [TOP]]` writes; `-` is standard input.
+pub fn vcd(configuration: &str, file: &str, form: &[&str]) -> io::Result<Vec<u8>> {
+    let form = Form::of(form).ok_or_else(|| io::Error::other("lines, pgm [TOP] or png [TOP]"))?;
     let configuration = fs::read(configuration)?;
     let dump = if file == "-" {
         input()?
@@ -47,7 +46,7 @@ pub fn batch() -> io::Result<()> {
             eprintln!("dumps: {line}: only the word vcd");
             continue;
         };
-        let text = vcd(configuration, file, form.first().copied())?;
+        let text = vcd(configuration, file, form)?;
         match name {
             Some(name) if !text.starts_with(b"refused ") => fs::write(name, text)?,
             _ => output.write_all(&text)?,

@@ -1,11 +1,9 @@
 //! The comparison held to itself: `dumps` stands in for `jollanqe`, sound and with faults.
 
 use std::fs;
-use std::io::Write;
 use std::os::unix::fs::PermissionsExt;
 use std::path::{Path, PathBuf};
-use std::process::{Command, Output, Stdio};
-use std::thread;
+use std::process::{Command, Output};
 
 const DUMPS: &str = env!("CARGO_BIN_EXE_dumps");
 
@@ -86,39 +84,6 @@ fn a_fault_is_seen_and_kept() {
     }
 }
 
-/// What the judge writes for jobs over the stored dumps.
-fn judged(folder: &Path, jobs: &[&str]) -> Vec<u8> {
-    let mut child = Command::new(DUMPS)
-        .current_dir(folder)
-        .stdin(Stdio::piped())
-        .stdout(Stdio::piped())
-        .spawn()
-        .expect("it runs");
-    let mut input = child.stdin.take().expect("it reads");
-    let text = jobs.concat();
-    let writer = thread::spawn(move || input.write_all(text.as_bytes()));
-    let output = child.wait_with_output().expect("it ends");
-    writer.join().expect("it ends").expect("it was read");
-    output.stdout
-}
-
-/// A batch that was stored before 2026-08 is held to the judge job by job, but for the dump whose
-/// flag was refused by 9 then.
-fn hold_older(stored: &Path, jobs: &str, lines: &[u8]) {
-    let jobs: Vec<&str> = jobs.split_inclusive('\n').collect();
-    let first = jobs.iter().position(|job| job.starts_with("vcd "));
-    let jobs = &jobs[first.expect("there are dumps")..];
-    let flag = jobs
-        .iter()
-        .position(|job| job.contains("config-flag-8.vcd"));
-    let (before, after) = jobs.split_at(flag.expect("it is one of them"));
-    let data = stored.join("data");
-    let mut must = judged(&data, before);
-    must.extend(b"refused 9\n");
-    must.extend(judged(&data, &after[1..]));
-    assert!(lines.ends_with(&must));
-}
-
 /// The batch of `jollanqe` ends with the dumps made by hand, and then the real ones.
 #[test]
 fn the_stored_dumps_are_the_written_ones() {
@@ -126,14 +91,10 @@ fn the_stored_dumps_are_the_written_ones() {
     let stored = root.join("../crates/jollanqe");
     let read = |path: PathBuf| fs::read(&path).unwrap_or_else(|_| panic!("{path:?}"));
     let (all, told) = (read(stored.join("stdin")), read(stored.join("stdout")));
-    let all = String::from_utf8(all).expect("it is text");
     for name in REAL {
         let dump = read(root.join(format!("dumps/real/{name}.vcd")));
         let kept = read(stored.join(format!("data/{name}.vcd")));
         assert!(kept == dump, "{name}");
-    }
-    if !all.contains("rule-2.vcd") {
-        return hold_older(&stored, &all, &told);
     }
     let here = folder("stored");
     assert!(run(&here, &["cases", "."]).status.success());
@@ -147,7 +108,7 @@ fn the_stored_dumps_are_the_written_ones() {
         jobs.extend(format!("vcd panel.config {name}.vcd\n").into_bytes());
         lines.extend(read(root.join(format!("dumps/real/{name}.out"))));
     }
-    assert!(all.as_bytes().ends_with(&jobs));
+    assert!(all.ends_with(&jobs));
     assert!(told.ends_with(&lines));
     fs::remove_dir_all(here).expect("it is ours");
 }

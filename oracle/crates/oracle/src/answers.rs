@@ -32,27 +32,35 @@ pub fn answers(seed: u64, levels: u64, greys: u64, refreshes: u64, ruled: Option
     text
 }
 
+/// The tables of `test_glass`, in their order.
+const TABLES: [&str; 5] = ["level", "gray", "refresh", "ruled", "wide"];
+const WIDE_HEAD: &str = "wide TOP STATE SWING GREY";
+
 /// The rows that `test_glass` has room for.
 const MOST_ROWS: u64 = 4_000;
 
-/// So many refreshes by either rule through the program `test_glass`; whether all were equal. The
-/// first batch that differs is kept.
+/// So many refreshes by either rule, and as many greys at tops, through the program `test_glass`;
+/// whether all were equal. The first batch that differs is kept.
 pub fn tables(program: &Path, count: u64, seed: u64) -> io::Result<bool> {
     let (mut done, mut batch) = (0, 0);
     while done < count {
         let rows = MOST_ROWS.min(count - done);
-        let text = answers(seed.wrapping_add(batch), 0, 0, 0, Some(rows));
+        let seed = seed.wrapping_add(batch);
+        let text = answers(seed, 0, 0, 0, Some(rows))
+            + &table(&mut Rng::new(seed), WIDE_HEAD, rows, glass::wide_row);
         let said = against::output(program, text.as_bytes())?;
-        let must: String = [("level", 0), ("gray", 0), ("refresh", 0), ("ruled", rows)]
+        let counts = [0, 0, 0, rows, rows];
+        let must = TABLES.iter().zip(counts);
+        let must: String = must
             .map(|(name, rows)| format!("{name} {rows} equal 0 different\n"))
-            .concat();
+            .collect();
         if said != must.as_bytes() {
             against::keep(&[("stdin", text.as_bytes()), ("stdout", &said)])?;
-            println!("batch {batch} of seed {seed} differs: see difference/");
+            println!("the batch of seed {seed} differs: see difference/");
             return Ok(false);
         }
         (done, batch) = (done + rows, batch + 1);
     }
-    println!("{done} refreshes equal, 0 different");
+    println!("{done} refreshes and as many greys at tops equal, 0 different");
     Ok(true)
 }

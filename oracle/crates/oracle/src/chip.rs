@@ -265,6 +265,19 @@ impl Chip {
         }
     }
 
+    /// Where each pixel stands.
+    pub fn states(&self) -> Vec<i64> {
+        match &self.own {
+            None => inside::states(&self.published),
+            Some(own) => own.states.clone(),
+        }
+    }
+
+    /// The drive from black to white.
+    pub fn swing(&self) -> i64 {
+        self.glass.swing
+    }
+
     // What the published chip answers alone.
 
     pub fn config(&self) -> &Uc8253Config {

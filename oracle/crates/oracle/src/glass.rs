@@ -1,8 +1,9 @@
-//! Answers of the published `level` and `gray`, as rows.
+//! Answers of the published `level` and `gray` as rows, and greys at tops.
 
 use chips::probe;
 
 use crate::rng::Rng;
+use crate::tops;
 
 const MOST_SWING: u64 = i64::MAX as u64;
 
@@ -72,4 +73,29 @@ pub fn gray_row(rng: &mut Rng) -> String {
     let state = state(rng, swing);
     let grey = probe::gray(signed(state), signed(swing));
     format!("gray {state} {swing} {grey}")
+}
+
+/// A top, a state near the middle of two of its greys or any other, and a swing.
+fn toned(rng: &mut Rng) -> (u16, u64, u64) {
+    let swing = swing(rng);
+    let top = match rng.below(3) {
+        0 => rng.pick(&[0, 1, 2, 254, 255, 256, 65_534, 65_535]),
+        _ => rng.between(1, 65_535) as u16,
+    };
+    let state = if rng.chance(60) {
+        let white = if top == 0 { 255 } else { u64::from(top) };
+        let halves = u128::from(2 * rng.below(white) + 1);
+        let middle = (halves * u128::from(swing)).div_ceil(2 * u128::from(white)) as u64;
+        middle.saturating_sub(rng.below(2)).min(swing)
+    } else {
+        state(rng, swing)
+    };
+    (top, state, swing)
+}
+
+/// `wide TOP STATE SWING GREY`: arguments, then the answer, which is not the Rust's.
+pub fn wide_row(rng: &mut Rng) -> String {
+    let (top, state, swing) = toned(rng);
+    let grey = tops::grey(signed(state), signed(swing), top);
+    format!("wide {top} {state} {swing} {grey}")
 }

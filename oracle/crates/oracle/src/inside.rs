@@ -40,6 +40,14 @@ fn group(numbers: &[u8]) -> Group {
     }
 }
 
+/// The states of a chip, whether a refresh runs on it or not.
+pub fn states(chip: &Uc8253) -> Vec<i64> {
+    let text = format!("{chip:?}");
+    let (states, rest) = between(&text, " states: [", "]");
+    assert!(!rest.contains(" states: ["));
+    numbers(states)
+}
+
 /// The bytes of a group as they are printed.
 const GROUP_NUMBERS: usize = 9;
 

@@ -6,7 +6,7 @@ use std::path::Path;
 
 use crate::capture::Configuration;
 use crate::script::{Script, example_panel};
-use crate::{cases, cuts, differ, picture, run};
+use crate::{cases, cuts, differ, picture, run, tops};
 
 /// What a word writes for a capture: as the program, without 10.
 pub fn lines(file: &[u8]) -> String {
@@ -83,6 +83,14 @@ fn variations() -> Vec<(&'static str, Vec<u8>)> {
         ("other-event", other.encode()),
         ("shorter", shorter.encode()),
         (
+            "odd-swing",
+            with(Configuration {
+                full_swing: 28_000_019,
+                initial_grey: 77,
+                ..example_panel()
+            }),
+        ),
+        (
             "grey",
             with(Configuration {
                 initial_grey: 40,
@@ -111,6 +119,16 @@ fn variations() -> Vec<(&'static str, Vec<u8>)> {
             }),
         ),
     ]
+}
+
+/// No events: every state is two thirds of a swing of 3, and the picture still the initial grey.
+fn made() -> Vec<u8> {
+    let panel = Configuration {
+        full_swing: 3,
+        initial_grey: 200,
+        ..example_panel()
+    };
+    Script::new(panel).file()
 }
 
 /// The captures of the batch by name: the large panel and small cases.
@@ -166,7 +184,7 @@ const PAIRS: [[&str; 2]; 13] = [
     ["rate-cut-3", "rate-cut-7"],
 ];
 
-/// Of 2026-08, behind the others: all words of these, and each compared with the next.
+/// By VCOM's rules (2026-08): all words of these, and each compared with the next.
 const RULED: [&str; 6] = [
     "rule-2-repeats",
     "rule-1-repeats",
@@ -175,6 +193,25 @@ const RULED: [&str; 6] = [
     "rule-changed-to-1-under-way",
     "refused-9-rule-3",
 ];
+
+/// At tops (2026-03): by every top of the list as a graymap, by each that it may have as a PNG file.
+const TONED: [&str; 13] = [
+    "example",
+    "odd-swing",
+    "made",
+    "upright",
+    "partial-window",
+    "undriven-grey",
+    "swing-largest",
+    "reset-before-frame",
+    "rate-cut-3",
+    "rule-2-repeats",
+    "rule-2-floating-cut",
+    "refused-8",
+    "empty-evening",
+];
+const TOPS: [u16; 5] = [1, 255, 256, 65_535, 0];
+const PNG_TOPS: [u16; 2] = [255, 65_535];
 
 /// A batch as it grows: its captures, its lines, what it has to write.
 struct Batch {
@@ -212,10 +249,49 @@ impl Batch {
             self.add(&format!("compare {a} {b}"), output);
         }
     }
+
+    fn add_pgm(&mut self, name: &str, top: u16) {
+        let output = tops::pgm(self.file(name), top);
+        self.add(&format!("pgm {name}.capture {top}"), output);
+    }
+
+    fn add_png(&mut self, name: &str, top: u16) {
+        let output = tops::png(self.file(name), top);
+        self.add(&format!("png {name}.capture {top}"), output);
+    }
+
+    fn add_toned(&mut self) {
+        for name in TONED {
+            for top in TOPS {
+                self.add_pgm(name, top);
+            }
+            for top in PNG_TOPS {
+                self.add_png(name, top);
+            }
+        }
+        self.add_pgm("cut-twice", 40_000);
+        self.add_pgm("large", 65_535);
+        self.add_png("large", 65_535);
+        self.add_png("example", 0);
+        // tops that are none, and one too many
+        for job in [
+            "pgm example.capture 65536",
+            "pgm example.capture -1",
+            "pgm example.capture white",
+            "pgm example.capture 255 255",
+            "png example.capture 256",
+        ] {
+            self.add(job, "");
+        }
+    }
 }
 
-fn captures(ruled: bool) -> Vec<(&'static str, Vec<u8>)> {
-    let mut files = vec![("large", large()), ("cut-twice", cut_twice())];
+fn captures() -> Vec<(&'static str, Vec<u8>)> {
+    let mut files = vec![
+        ("large", large()),
+        ("cut-twice", cut_twice()),
+        ("made", made()),
+    ];
     files.extend(variations());
     let others = [
         "reset-before-frame",
@@ -224,19 +300,20 @@ fn captures(ruled: bool) -> Vec<(&'static str, Vec<u8>)> {
         "reset-at-end",
         "rate-3-hz",
         "rate-cut-7",
+        "undriven-grey",
+        "swing-largest",
     ];
     let all = cases::all();
-    let ruled = RULED.iter().filter(|_| ruled);
-    for name in CASES.into_iter().chain(others).chain(ruled.copied()) {
+    for name in CASES.into_iter().chain(others).chain(RULED) {
         let case = all.iter().find(|case| case.name == name);
         files.push((name, case.expect("a case of that name").file.clone()));
     }
     files
 }
 
-fn batch(ruled: bool) -> Batch {
+fn batch() -> Batch {
     let mut batch = Batch {
-        files: captures(ruled),
+        files: captures(),
         jobs: String::new(),
         output: Vec::new(),
     };
@@ -271,18 +348,16 @@ fn batch(ruled: bool) -> Batch {
     ] {
         batch.add(job, "");
     }
-    if ruled {
-        batch.add_ruled();
-    }
+    batch.add_ruled();
+    batch.add_toned();
     batch
 }
 
-/// Writes the batch, its captures and what it has to write; with the jobs of 2026-08 if they are
-/// asked for.
-pub fn write(directory: &Path, ruled: bool) -> io::Result<()> {
+/// Writes the batch, its captures and what it has to write.
+pub fn write(directory: &Path) -> io::Result<()> {
     let data = directory.join("data");
     fs::create_dir_all(&data)?;
-    let batch = batch(ruled);
+    let batch = batch();
     for (name, file) in &batch.files {
         fs::write(data.join(format!("{name}.capture")), file)?;
     }

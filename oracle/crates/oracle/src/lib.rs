@@ -32,6 +32,7 @@ pub mod stats;
 mod tally;
 #[cfg(test)]
 mod tests;
+pub mod tops;
 pub mod trace;
 pub mod vcom;
 mod watch;

@@ -6,11 +6,11 @@ use std::process::ExitCode;
 
 use oracle::{
     against::Comparison, answers, cases, cuts, differ, generate, jobs, list, page, picture,
-    replays, run, stats, trace,
+    replays, run, stats, tops, trace,
 };
 
 const USAGE: &str = "usage: oracle run | trace | list   (a capture on standard input)
-       oracle lines | pgm | png   (the same, for a panel of any size)
+       oracle lines | pgm [TOP] | png [TOP]   (the same, for a panel of any size)
        oracle cuts | pictures DIR   (the same)
        oracle differ CAPTURE CAPTURE
        oracle page
@@ -18,7 +18,7 @@ const USAGE: &str = "usage: oracle run | trace | list   (a capture on standard i
        oracle stats SEED N
        oracle answers SEED LEVELS GREYS REFRESHES [RULED]
        oracle replays SEED N DIR
-       oracle jobs DIR [ruled]
+       oracle jobs DIR
        oracle cases DIR | check DIR
        oracle compare PANEL N SEED
        oracle tables TEST_GLASS N SEED
@@ -48,6 +48,11 @@ fn number(word: &str) -> io::Result<u64> {
         .map_err(|error| io::Error::new(ErrorKind::InvalidInput, format!("{word}: {error}")))
 }
 
+fn short(word: &str) -> io::Result<u16> {
+    u16::try_from(number(word)?)
+        .map_err(|error| io::Error::new(ErrorKind::InvalidInput, format!("{word}: {error}")))
+}
+
 fn verdict(equal: bool) -> ExitCode {
     if equal {
         ExitCode::SUCCESS
@@ -64,6 +69,8 @@ fn obey(words: &[&str]) -> io::Result<ExitCode> {
         ["lines"] => say(jobs::lines(&input()?))?,
         ["pgm"] => say(picture::pgm(&input()?))?,
         ["png"] => say(picture::png(&input()?))?,
+        ["pgm", top] => say(tops::pgm(&input()?, short(top)?))?,
+        ["png", top @ ("0" | "255" | "65535")] => say(tops::png(&input()?, short(top)?))?,
         ["cuts"] => say(cuts::cuts(&input()?))?,
         ["pictures", directory] => {
             let file = input()?;
@@ -94,8 +101,7 @@ fn obey(words: &[&str]) -> io::Result<ExitCode> {
         ["replays", seed, count, directory] => {
             replays::write(number(seed)?, number(count)?, Path::new(directory))?;
         }
-        ["jobs", directory] => jobs::write(Path::new(directory), false)?,
-        ["jobs", directory, "ruled"] => jobs::write(Path::new(directory), true)?,
+        ["jobs", directory] => jobs::write(Path::new(directory))?,
         ["cases", directory] => cases::write(Path::new(directory))?,
         ["check", directory] => {
             let (text, equal) = cases::check(Path::new(directory))?;

@@ -30,7 +30,7 @@ pub fn pgm(file: &[u8]) -> Vec<u8> {
 }
 
 fn png_file(image: &PanelImage) -> Vec<u8> {
-    png::file(image.width, image.height, &image.pixels)
+    png::file(image.width, image.height, 8, &image.pixels)
 }
 
 pub fn png(file: &[u8]) -> Vec<u8> {

@@ -5,3 +5,4 @@ mod paper;
 mod program;
 mod rates;
 mod rules;
+mod tops;

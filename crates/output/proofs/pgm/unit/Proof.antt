@@ -1,6 +1,7 @@
 -- `output::pgm::unit` meets its contract: the head, a row, or nothing past the last.
 use mathlib.Core.Path.{sym, _∙_}
-use Rattle.output.proofs.UnitLaws.{is-head, is-row, is-past-row}
+use Prim.Native.Nat.{_-_}
+use Rattle.output.proofs.UnitLaws.{is-head, is-row, at-rows, past-rows}
 use Rattle.text.proofs.Filling.{puts-as}
 use borrow.Author.Needs.{needs}
 use Rattle.output.proofs.pgm.unit.Statement.{statement}
@@ -10,7 +11,7 @@ returns : tie.Need-returns
 returns c =
     let test = c .before .before .before .before in
     let a = test .before .before .before .args in
-    puts-as (c .before .before .head .ensures) (sym (is-head (a .image) (a .picture .now) (a .i) (test .if1 .taken)))
+    puts-as (c .before .before .head .ensures) (sym (is-head 255 (a .image) _ (a .i) (test .if1 .taken)))
 
 returns-2 : tie.Need-returns-2
 returns-2 c =
@@ -18,7 +19,9 @@ returns-2 c =
     let first = test .before .before in
     let a = first .before .before .before .args in
     puts-as (c .before .before .put .ensures)
-    (sym (is-past-row (a .image) (a .picture .now) (a .i) (first .if1 .left) (test .if2 .taken)))
+    (sym
+    (is-row 255 (a .image) _ (a .i) (first .if1 .left)
+    ∙ past-rows (a .image .width) (a .image .height) (a .picture .now) (a .i - 1) (test .if2 .taken)))
 
 returns-3 : tie.Need-returns-3
 returns-3 c =
@@ -26,7 +29,10 @@ returns-3 c =
     let first = test .before .before in
     let a = first .before .before .before .args in
     puts-as (c .before .before .put2 .ensures)
-    (c .before .before .before .greys-of .ensures ∙ sym (is-row (a .image) (a .picture .now) (a .i) (first .if1 .left) (test .if2 .left)))
+    (c .before .before .before .greys-of .ensures
+    ∙ sym
+    (is-row 255 (a .image) _ (a .i) (first .if1 .left)
+    ∙ at-rows (a .image .width) (a .image .height) (a .picture .now) (a .i - 1) (test .if2 .left)))
 
 pub unit-spec : {M : Type 1} → statement M
 unit-spec =

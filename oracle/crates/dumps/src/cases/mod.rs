@@ -121,12 +121,12 @@ impl Case {
     }
 
     /// What must be written, by the answer.
-    pub fn lines(&self) -> Vec<u8> {
+    pub fn written(&self, form: Form) -> Vec<u8> {
         match &self.answer {
             Err(number) => judge::refused(*number),
             Ok(events) => {
                 let chip = judge::make(&self.configuration).expect("it is accepted");
-                judge::played(chip, events, Form::Lines)
+                judge::played(chip, events, form)
             }
         }
     }
@@ -214,11 +214,28 @@ fn index(cases: &[Case]) -> String {
     index
 }
 
+/// The dumps that are also asked for pictures at tops (2026-03): the worked example, one by rule 2,
+/// one that is refused.
+const TONED: [&str; 3] = ["example", "rule-2", "config-sources-0"];
+const TONES: [Form; 3] = [
+    Form::Pgm(Some(65_535)),
+    Form::Png(Some(65_535)),
+    Form::Pgm(Some(0)),
+];
+
+/// A job for the lines of each dump, and behind them those of pictures at tops.
+pub fn jobs() -> Vec<Job> {
+    let cases = all();
+    let toned = cases
+        .iter()
+        .filter(|case| TONED.contains(&case.name.as_str()));
+    let toned = toned.flat_map(|case| TONES.map(|form| Job::made(case, form)));
+    let lines = cases.iter().map(|case| Job::made(case, Form::Lines));
+    lines.chain(toned).collect()
+}
+
 /// Writes the dumps as a batch of `jollanqe`, and an index of them.
 pub fn write(folder: &Path) -> io::Result<()> {
-    let cases = all();
-    let index = index(&cases);
-    let jobs: Vec<Job> = cases.into_iter().map(Job::made).collect();
-    batch::write(folder, &jobs)?;
-    fs::write(folder.join("INDEX.md"), index)
+    batch::write(folder, &jobs())?;
+    fs::write(folder.join("INDEX.md"), index(&all()))
 }

@@ -3,6 +3,7 @@
 use std::collections::HashSet;
 use std::path::Path;
 
+use crate::judge::Form;
 use crate::{cases, judge, real};
 
 /// The reader gives the answers that were written down.
@@ -32,7 +33,7 @@ fn names_differ() {
 fn the_base_prints_its_row() {
     let base = &cases::all()[0];
     let lines = "diag 90 1 53 0 0\ndropped 0\nimage 8 1 0 poweron 0 0 0\n0 0 0 0 0 0 0 0\n";
-    assert_eq!(base.lines(), lines.as_bytes());
+    assert_eq!(base.written(Form::Lines), lines.as_bytes());
 }
 
 /// The worked example as a dump prints what the rules have for it; cut short, no refresh has ended.
@@ -41,7 +42,7 @@ fn the_example_is_the_rules_own() {
     let cases = cases::all();
     let lines = |name: &str| {
         let case = cases.iter().find(|case| case.name == name);
-        String::from_utf8(case.expect("it is there").lines()).expect("it is text")
+        String::from_utf8(case.expect("it is there").written(Form::Lines)).expect("it is text")
     };
     assert_eq!(lines("example"), oracle::cases::EXAMPLE_OUTPUT);
     // up by an eighth in the first, third and fifth frame

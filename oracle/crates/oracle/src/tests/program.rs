@@ -4,7 +4,6 @@ use chips::uc8253::{Plane, RAM_GATES};
 
 use crate::capture::{Capture, VCOM_BY_FRAME, VCOM_RULE};
 use crate::planes::{self, Planes};
-use crate::refusal::Refusal;
 use crate::{cases, cuts, generate, jobs, log, picture, replays, run, stats, trace};
 
 /// Digests that are kept are those taken anew over the whole planes.
@@ -121,37 +120,15 @@ fn has_rules(file: &[u8]) -> bool {
     })
 }
 
-/// The stored sample is the written one, and its outputs are the judge's. One that was stored
-/// before 2026-08 is held to the judge but for a capture that was refused by 9 then.
+/// The stored sample is the written one, and its outputs are the judge's.
 #[test]
 fn the_stored_sample_is_the_written_one() {
     let stored = ["stdin", "stdout"].map(|name| crate_file(&format!("test_captures/{name}")));
-    let mut refused = stored[1]
-        .windows(10)
-        .filter(|line| line == b"refused 9\n")
-        .count();
-    let is_older = !captures(&stored[0]).iter().any(|file| {
-        Capture::read(file).is_ok_and(|of| of.events.iter().any(|event| event.kind == VCOM_RULE))
-    });
-    let mut output = String::new();
-    for file in captures(&stored[0]) {
-        output += &match is_older && has_rules(file) {
-            true => run::refused(Refusal::BadEvent),
-            false => run::run(file),
-        };
-        refused -= usize::from(output.ends_with("refused 9\n"));
-    }
-    assert_eq!(refused, 0);
+    let files = captures(&stored[0]);
+    let output: String = files.iter().map(|file| run::run(file)).collect();
     assert!(stored[1] == output.as_bytes());
-    let written = replays::sample(1, 344);
-    assert!(is_older || stored[0] == written.input);
-    assert!(
-        captures(&written.input)
-            .iter()
-            .filter(|file| has_rules(file))
-            .count()
-            > 100
-    );
+    assert!(stored[0] == replays::sample(1, 344).input);
+    assert!(files.iter().filter(|file| has_rules(file)).count() > 100);
 }
 
 /// The graymap's bytes are the greys that `lines` prints.
@@ -183,11 +160,19 @@ fn a_refresh_that_has_ended_is_not_cut() {
 fn the_stored_batch_is_the_written_one() {
     let directory = std::env::temp_dir().join(format!("jobs-{}", std::process::id()));
     let stored = ["stdin", "stdout"].map(|name| crate_file(&format!("jollanqe/{name}")));
-    let ruled = String::from_utf8_lossy(&stored[0]).contains("rule-2-repeats");
-    jobs::write(&directory, ruled).expect("it can be written");
+    jobs::write(&directory).expect("it can be written");
     for (name, stored) in ["stdin", "stdout"].iter().zip(stored) {
         let written = std::fs::read(directory.join(name)).expect("it was written");
         assert!(stored.starts_with(&written), "{name}");
+    }
+    for entry in std::fs::read_dir(directory.join("data")).expect("it was written") {
+        let path = entry.expect("it was written").path();
+        let name = path.file_name().unwrap_or_default().to_string_lossy();
+        let written = std::fs::read(&path).expect("it was written");
+        assert!(
+            crate_file(&format!("jollanqe/data/{name}")) == written,
+            "{name}"
+        );
     }
     std::fs::remove_dir_all(directory).expect("it is ours");
 }

@@ -1,4 +1,4 @@
--- `numbers::put_eight` meets its contract. After k turns the first k entries are written.
+-- `numbers::eights::put_eight` meets its contract. After k turns the first k entries are written.
 use borrow.Author.Needs.{needs}
 use mathlib.Core.Path.{_≡_, refl, ap, _∙_}
 use mathlib.Core.List.{List}
@@ -8,8 +8,8 @@ use lib.ListN.{length, set, length-set}
 use Rattle.numbers.specs.Filled.{filled}
 use Rattle.numbers.specs.InnerRow.{byteOf}
 use Rattle.numbers.proofs.FilledLaws.{filled-more}
-use Rattle.numbers.proofs.put_eight.Statement.{statement}
-use Rattle.numbers.proofs.put_eight.Tie as tie
+use Rattle.numbers.proofs.eights.put_eight.Statement.{statement}
+use Rattle.numbers.proofs.eights.put_eight.Tie as tie
 
 abbrev Inv-loop : tie.InvT-loop
 Inv-loop numbers₀ at w k₀ numbers k = (numbers ≡ filled (byteOf w) at k numbers₀) × (k ≤ 8) × (length numbers ≡ length numbers₀)

@@ -1,9 +1,9 @@
--- `numbers::whites` meets its contract, by its two tests and the laws of bits.
+-- `numbers::eights::whites` meets its contract, by its two tests and the laws of bits.
 use native.Mathlib.Omega.{arith}
 use Rattle.numbers.proofs.BitLaws.{zero-white, none-white}
 use borrow.Author.Needs.{needs}
-use Rattle.numbers.proofs.whites.Statement.{statement}
-use Rattle.numbers.proofs.whites.Tie as tie
+use Rattle.numbers.proofs.eights.whites.Statement.{statement}
+use Rattle.numbers.proofs.eights.whites.Tie as tie
 
 returns : tie.Need-returns
 returns c = λ k h. rw (c .if1 .taken) (zero-white (c .before .args .b) k (omega arith) h)

@@ -1,11 +1,11 @@
--- `numbers::spread` meets its contract: a test of every byte.
+-- `numbers::eights::spread` meets its contract: a test of every byte.
 use borrow.Author.Needs.{needs}
 use Prim.Native.Nat.{_*_}
 use native.Mathlib.Omega.{arith}
 use lib.Bits.{and-le-r}
 use Rattle.numbers.proofs.EightLaws.{spread-is}
-use Rattle.numbers.proofs.spread.Statement.{statement}
-use Rattle.numbers.proofs.spread.Tie as tie
+use Rattle.numbers.proofs.eights.spread.Statement.{statement}
+use Rattle.numbers.proofs.eights.spread.Tie as tie
 
 add-result : tie.Need-add-result
 add-result c = record { fits = omega (arith, and-le-r (c .args .b * 0x0100_8040_2010_0804) 0x0101_0101_0101_0100) }

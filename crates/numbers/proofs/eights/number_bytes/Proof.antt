@@ -1,4 +1,4 @@
--- `numbers::number_bytes` meets its contract. After i turns the numbers of the first i bytes are written.
+-- `numbers::eights::number_bytes` meets its contract. After i turns the numbers of the first i bytes are written.
 use borrow.Author.Needs.{needs}
 use mathlib.Core.Path.{_≡_, refl, ap, _∙_}
 use Prim.Native.Nat.{ℕ, _+_, _-_, _*_, _≤_}
@@ -8,8 +8,8 @@ use Rattle.numbers.specs.Filled.{filled}
 use Rattle.numbers.specs.InnerRow.{byteOf, numberFrom}
 use Rattle.numbers.proofs.FilledLaws.{length-filled}
 use Rattle.numbers.proofs.EightLaws.{eight-more}
-use Rattle.numbers.proofs.number_bytes.Statement.{statement}
-use Rattle.numbers.proofs.number_bytes.Tie as tie
+use Rattle.numbers.proofs.eights.number_bytes.Statement.{statement}
+use Rattle.numbers.proofs.eights.number_bytes.Tie as tie
 
 abbrev Inv-loop : tie.InvT-loop
 Inv-loop numbers₀ at old new place n white i₀ numbers i = (numbers ≡ filled (numberFrom old new place white) at (i * 8) numbers₀) × (i ≤ n) × (length numbers ≡ length numbers₀)

@@ -1,8 +1,8 @@
--- `numbers::eight` meets its contract: four less the old bit and twice the new one, byte by byte.
+-- `numbers::eights::eight` meets its contract: four less the old bit and twice the new one, byte by byte.
 use borrow.Author.Needs.{needs}
 use Rattle.numbers.proofs.EightLaws.{eight-numbers}
-use Rattle.numbers.proofs.eight.Statement.{statement}
-use Rattle.numbers.proofs.eight.Tie as tie
+use Rattle.numbers.proofs.eights.eight.Statement.{statement}
+use Rattle.numbers.proofs.eights.eight.Tie as tie
 
 returns : tie.Need-returns
 returns c = eight-numbers _ _ _ _ (c .before .spread .ensures) (c .spread2 .ensures)
