@@ -9,3 +9,4 @@ pub mod OneFault
 pub mod Keeps
 pub mod OneGigahertz
 pub mod VcomRule
+pub mod Quiet
