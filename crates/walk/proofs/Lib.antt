@@ -15,3 +15,4 @@ pub mod Example
 pub mod TwoDriven
 pub mod Inhabited
 pub mod Acceptance
+pub mod Quiet
