@@ -33,7 +33,6 @@ use Rattle.controller.specs.declared.Operation.{Operation}
 use Rattle.controller.specs.declared.Active.{Active}
 use Rattle.controller.specs.declared.Current.{Current}
 use Rattle.controller.specs.declared.Current.the-variants as current
-use Rattle.controller.specs.declared.Refresh.{Refresh}
 use Rattle.controller.specs.declared.notes.Note.{Note}
 use Rattle.controller.specs.declared.notes.Note.the-variants.{Quiet, Told}
 use Rattle.controller.specs.declared.uses.Use.{Use}
@@ -135,13 +134,14 @@ pub record Spared (w v : World) : Type 0 where
   pub guarded : GuardedIn v
   pub same : busy (w .chip .operation .work) ≡ true → stays v ≡ stays w
 
+-- nothing changes; nothing ran
 spared-whole : (w : World) → GuardedIn w → Spared w w
 spared-whole w g = record { guarded = g; same = λ e. refl }
 
 spared-free : (w v : World) → busy (w .chip .operation .work) ≡ false → GuardedIn v → Spared w v
 spared-free w v r g = record { guarded = g; same = λ e. absurd (true≢false (sym e ∙ r)) }
 
--- ---- counts
+-- ---- counts: what takes no byte takes none later
 full-later : (p : Params) (i j : ℕ) → min i 65535 ≤ min j 65535 → full p i ≡ true → full p j ≡ true
 full-later (params.Exactly n) i j h e = let l = leb-true n (min i 65535) e in le-leb n (min j 65535) (omega (arith, l))
 full-later (params.Between n m) i j h e = let l = leb-true m (min i 65535) e in le-leb m (min j 65535) (omega (arith, l))
@@ -206,7 +206,7 @@ shut-by (current.Active a) w = shut-noted (closingNote a)
     shut-noted Quiet = record { power-is = refl; same = refl }
     shut-noted (Told k) = record { power-is = refl; same = refl }
 
--- it is dropped, or nothing runs, or it is 70, 71 or 81
+-- it is dropped; or it passes, out of reset, and if an operation runs it is 70, 71 or 81
 neither : (a b : Bool) → (a || b) ≡ false → a ≡ false
 neither true b e = e
 neither false b e = refl
@@ -241,7 +241,7 @@ spared-read w n v =
     } in
     readable (λ (c : ℕ). Spared w (sortedBy own (kindOf c v) c w)) (one 0x70) (one 0x71) (one 0x81)
 
--- 04, 02 and 12, which start an operation, take no byte
+-- with nothing running: 04, 02 and 12, which may start an operation, take no byte; the others start none
 refreshed-guarded : (n : Note) (w : World) → GuardedIn w → inReset (w .chip .mode .power) ≡ false → deaf (w .chip .stage .current) ≡ true
     → GuardedIn (refreshedBy own n w)
 unfolding tell refreshStarted
@@ -249,7 +249,6 @@ refreshed-guarded (Told k) w g n d = g
 refreshed-guarded Quiet w g n d = awake-deaf n d (g .once)
 
 module _ (w : World) (n : inReset (w .chip .mode .power) ≡ false) (r : busy (w .chip .operation .work) ≡ false) (v : Variant) where
-  -- the others start none
   module _ (c : ℕ) (no4 : eqb c 0x04 ≡ false) (no2 : eqb c 0x02 ≡ false) (no12 : eqb c 0x12 ≡ false) where
     executed-guarded : (u : World) → GuardedIn u → GuardedIn (executed own c u)
     unfolding executed
@@ -280,7 +279,8 @@ module _ (w : World) (n : inReset (w .chip .mode .power) ≡ false) (r : busy (w
       (λ no4. by-cases (eqb c 0x02) (equals P 0x02 c (both GuardedIn on (awake-deaf n refl refl) (awake-deaf n refl refl)))
       (λ no2. by-cases (eqb c 0x12)
       (equals P 0x12 c
-      (refreshed-guarded (refreshNote (getD (w .chip .regs .psr) 0 0) on) (onChip (begun 0x12 (kindOf 0x12 v)) w) (awake-deaf n refl refl) n refl))
+      (refreshed-guarded (refreshNote (getD (w .chip .regs .psr) 0 0) on) (onChip (begun 0x12 (kindOf 0x12 v)) w)
+      (awake-deaf n refl refl) n refl))
       (λ no12. others-guarded c no4 no2 no12 (kindOf c v) (only-kind c))))
 
 spared-passed : (c : ℕ) (w : World) → (inReset (w .chip .mode .power) ≡ true → busy (w .chip .operation .work) ≡ false)

@@ -16,3 +16,4 @@ pub mod TwoDriven
 pub mod Inhabited
 pub mod Acceptance
 pub mod Quiet
+pub mod QuietExample

@@ -4,6 +4,7 @@ use mathlib.Core.Path.{_≡_}
 use mathlib.Core.Bool.{Bool, true, false}
 use mathlib.Core.List.{List, [], _∷_}
 use Prim.Native.Nat.{ℕ, zero, suc, _≤_, _<_, max}
+use lib.Dec.{ltb}
 use lib.ListN.{length}
 use Rattle.config.specs.declared.Uc8253Config.{Uc8253Config}
 use Rattle.controller.specs.World.{World, Buffers}
@@ -24,26 +25,26 @@ IsEntry (y ∷ ys) (suc k) x = IsEntry ys k x
 
 -- an accepted call that comes before an operation's end: it asserts no reset, and if it is timed it leaves the clock, which becomes the
 -- larger of itself and the time given, below that end. Event kind 6 is timed; taking the rows and the questions are not
-abbrev pub ComesBefore : ℕ → ℕ → Ask → Type 0
-ComesBefore end now (command t c) = max now t < end
-ComesBefore end now (datum t b) = max now t < end
-ComesBefore end now (reading t) = max now t < end
-ComesBefore end now (advance t) = max now t < end
-ComesBefore end now (reset t true) = ⊥
-ComesBefore end now (reset t false) = max now t < end
-ComesBefore end now (vcomRule t x) = max now t < end
-ComesBefore end now taking = Unit {0}
-ComesBefore end now (askBusy t) = Unit {0}
-ComesBefore end now askDeadline = Unit {0}
-ComesBefore end now (askBit older x y) = Unit {0}
-ComesBefore end now (askRow y) = Unit {0}
+abbrev pub comesBefore : ℕ → ℕ → Ask → Bool
+comesBefore end now (command t c) = ltb (max now t) end
+comesBefore end now (datum t b) = ltb (max now t) end
+comesBefore end now (reading t) = ltb (max now t) end
+comesBefore end now (advance t) = ltb (max now t) end
+comesBefore end now (reset t true) = false
+comesBefore end now (reset t false) = ltb (max now t) end
+comesBefore end now (vcomRule t x) = ltb (max now t) end
+comesBefore end now taking = true
+comesBefore end now (askBusy t) = true
+comesBefore end now askDeadline = true
+comesBefore end now (askBit older x y) = true
+comesBefore end now (askRow y) = true
 
 -- each call between places i and j is refused, or comes before the end of the operation that runs at i. That the clock lies below this
 -- end at i is not asked: one of no duration, or one started at 2^64 - 1, runs with the clock at its end until the next accepted timed call
 abbrev pub Undisturbed : Uc8253Config → Buffers → List Call → ℕ → ℕ → Type 0
 Undisturbed g b cs i j =
     (k : ℕ) → i ≤ k → k < j → (c : Call) → IsEntry cs k c → turned (place g b cs k) c ≡ false
-    → ComesBefore (place g b cs i .chip .operation .until) (place g b cs k .chip .now) (c .ask)
+    → comesBefore (place g b cs i .chip .operation .until) (place g b cs k .chip .now) (c .ask) ≡ true
 
 -- what is the same at two places. VCOM's rule in force, which event kind 6 sets, is the host's choice and no register
 pub record Same (w v : World) : Type 0 where
