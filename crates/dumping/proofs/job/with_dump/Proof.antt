@@ -1,9 +1,17 @@
 -- `dumping::job::with_dump` meets its contract: the dump is played, and what is lent keeps its lengths.
 use Rattle.controller.specs.World.{Buffers, buffers}
 use Rattle.dumping.proofs.JobLaws.{dump-ran}
+use mathlib.Core.Path.{sym}
+use lib.Seq.{length-take-le}
 use borrow.Author.Needs.{needs}
 use Rattle.dumping.proofs.job.with_dump.Statement.{statement}
 use Rattle.dumping.proofs.job.with_dump.Tie as tie
+
+slice-reshare-prefix-answer : tie.Need-slice-reshare-prefix-answer
+slice-reshare-prefix-answer c = c .room .ensures
+
+slice-aggregate-answer : tie.Need-slice-aggregate-answer
+slice-aggregate-answer c = sym (length-take-le _ _ (c .before .room .ensures))
 
 same-length : tie.Need-same-length
 same-length c =
@@ -80,6 +88,9 @@ with-dump-spec =
     (λ c κs. search needs)
     (λ c κs. search needs)
     (λ c κs. search needs)
+    (λ c κs. search needs)
+    slice-reshare-prefix-answer
+    slice-aggregate-answer
     (λ c κs. search needs)
     same-length
     same-length-2
