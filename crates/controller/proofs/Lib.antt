@@ -10,3 +10,4 @@ pub mod Keeps
 pub mod OneGigahertz
 pub mod VcomRule
 pub mod Wide
+pub mod Quiet

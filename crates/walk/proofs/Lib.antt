@@ -15,3 +15,5 @@ pub mod Example
 pub mod TwoDriven
 pub mod Inhabited
 pub mod Acceptance
+pub mod Quiet
+pub mod QuietExample
