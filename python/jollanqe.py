@@ -570,7 +570,7 @@ class Panel:
     at them at any time and change them between calls. The library tests their lengths and entries.
 
     A refused call raises Refused. Of a panel whose buffers and record nobody else changes, only
-    making is ever refused (a theorem of the library).
+    making is ever refused (a theorem of the library), and a picture at a top into a buffer of another length.
     """
 
     def __init__(self, configuration, **buffers):

@@ -47,7 +47,8 @@ pub struct Parts {
 
 /// A panel behind its controller.
 ///
-/// Of a panel that [`Panel::new`] made, no call is ever refused (a theorem of the library). One that
+/// Of a panel that [`Panel::new`] made, no call is ever refused (a theorem of the library), but for a
+/// picture at a top into a buffer of another length. One that
 /// was put together by [`Panel::from_parts`] may be, by 6, 5 or 7; nothing has changed then.
 #[derive(Clone, Debug, PartialEq, Eq)]
 pub struct Panel(Parts);
