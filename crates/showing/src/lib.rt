@@ -163,15 +163,7 @@ pub fn show(
 
 // Writes the picture at a top that playing the file left. What it is of, and the sizes lent, are named
 // for the condition alone.
-fn tone(
-    file: &[u8],
-    form: Form,
-    top: u16,
-    fd: i32,
-    sizes: Sizes,
-    p: Uc8253,
-    states: &[i64],
-) -> bool
+fn tone(file: &[u8], form: Form, top: u16, fd: i32, sizes: Sizes, p: Uc8253, states: &[i64]) -> bool
     requires { ⌜ shadesOf form top p (now states) ≡ shadedOf form top (now file) sizes ⌝ }
 {
     shades::write(form, top, fd, p, states)
