@@ -1,27 +1,29 @@
 -- What a capture that was played came to is its output: of what is lent only the sizes count, since making sets all of it.
-use mathlib.Core.Path.{_≡_, sym, ap, _∙_}
+use mathlib.Core.Path.{_≡_, refl, sym, ap, _∙_}
 use mathlib.Core.Bool.{true, false}
 use mathlib.Core.List.{List}
 use Prim.Native.Nat.{ℕ}
 use lib.Dec.{eqb}
+use lib.IntN.{ℤ}
 use lib.ListN.{length}
 use Rattle.base.specs.Pick.{pick}
 use Rattle.base.proofs.Cases.{by-cases}
-use Rattle.config.specs.Refusal.{refusal}
+use Rattle.config.specs.Refusal.{emptyPanel, refusal}
 use Rattle.outcome.specs.declared.Came.{Came}
 use Rattle.output.specs.declared.Form.{Form}
 use Rattle.output.specs.Units.{playedOf, unitsBy, unitsOf}
 use Rattle.capture.specs.Layout.{configIn}
 use Rattle.controller.specs.declared.Uc8253.{Uc8253}
 use Rattle.controller.specs.World.{World, Buffers, world}
-use Rattle.controller.specs.TurnedBack.{lengthsFit, makingRefused}
-use Rattle.controller.specs.Calls.{made}
+use Rattle.controller.specs.TurnedBack.{badConfig, foreignRecord, lengthsFit, makingRefused}
+use Rattle.controller.specs.Calls.{wideRefused, wideAnswer, noConfig, noRegisters, zeros, made}
+use Rattle.shades.specs.Shades.{shadesOf}
 use Rattle.capture.specs.Reading.{eventsOf}
 use Rattle.events.specs.Played as events
 use Rattle.showing.specs.declared.Sizes.{Sizes}
 use Rattle.showing.specs.Played.{isPanel, testedBy, playRefused, played, answersPlayed}
 use Rattle.showing.specs.Shown.{fitted, sizesOf, blank, lentAnswers, Fits}
-use Rattle.showing.specs.Output.{cameOf, unitsPlayed, outputOf, Output}
+use Rattle.showing.specs.Output.{cameOf, unitsPlayed, outputOf, Output, shadesPlayed, shadedOf}
 
 -- a file that is not played has one unit, whatever is lent
 not-played : (f : Form) (file : List ℕ) (n : ℕ) (us vs : List (List ℕ)) → eqb n 0 ≡ false
@@ -30,6 +32,11 @@ not-played f file n us vs h =
     by-cases (isPanel f)
     (λ p. by-cases (eqb (length file) 0) (λ q. rw (p, q)) (λ q. rw (p, q, h)))
     (λ p. rw (p, h))
+
+-- the question of a record of zeros is turned back, whatever the states are
+zeros-shades : (f : Form) (top : ℕ) (s t : List ℤ) → shadesOf f top zeros s ≡ shadesOf f top zeros t
+unfolding shadesOf wideRefused wideAnswer foreignRecord badConfig refusal emptyPanel zeros noConfig noRegisters
+zeros-shades f top s t = refl
 
 -- ---- two lendings of the same sizes
 module _ (f : Form) (file : List ℕ) (b c : Buffers) (e : sizesOf b ≡ sizesOf c) where
@@ -63,6 +70,7 @@ module _ (f : Form) (file : List ℕ) (b c : Buffers) (e : sizesOf b ≡ sizesOf
   record Alike : Type 0 where
     answers : answersPlayed f file b lentAnswers ≡ answersPlayed f file c lentAnswers
     chip : played f file b .chip ≡ played f file c .chip
+    states : played f file b .lent .states ≡ played f file c .lent .states
     picture : played f file b .lent .picture ≡ played f file c .lent .picture
     rows : played f file b .lent .rows ≡ played f file c .lent .rows
 
@@ -70,7 +78,7 @@ module _ (f : Form) (file : List ℕ) (b c : Buffers) (e : sizesOf b ≡ sizesOf
   unfolding answersPlayed events.answersPlayed played events.played made
   alike p q =
       let r = ap (λ (x : ℕ). eqb x 0) (sym making-alike) ∙ q in
-      record { answers = rw (p, q, r); chip = rw (p, q, r); picture = rw (p, q, r); rows = rw (p, q, r) }
+      record { answers = rw (p, q, r); chip = rw (p, q, r); states = rw (p, q, r); picture = rw (p, q, r); rows = rw (p, q, r) }
 
   accepted-alike : Alike → unitsPlayed f file b lentAnswers ≡ unitsPlayed f file c lentAnswers
   accepted-alike a =
@@ -86,6 +94,18 @@ module _ (f : Form) (file : List ℕ) (b c : Buffers) (e : sizesOf b ≡ sizesOf
       (λ q. refused-alike lentAnswers (rw p q)))
       (λ p. refused-alike lentAnswers (rw p p))
 
+  -- the picture at a top
+  pub shades-alike : (top : ℕ) → shadesPlayed f top file b ≡ shadesPlayed f top file c
+  unfolding played events.played made
+  shades-alike top =
+      by-cases (eqb (testedBy f file) 0)
+      (λ p. by-cases (eqb (makingRefused (configIn file) b) 0)
+      (λ q.
+      let a = alike p q in
+      λ i. shadesOf f top (a .chip i) (a .states i))
+      (λ q. rw (p, q, ap (λ (x : ℕ). eqb x 0) (sym making-alike) ∙ q) (zeros-shades f top (b .states) (c .states))))
+      (λ p. rw p (zeros-shades f top (b .states) (c .states)))
+
 -- ---- what is written
 module _ (f : Form) (file : List ℕ) (s : Sizes) (b : Buffers) (given : List ℕ) (fits : Fits file s b) (eg : given ≡ lentAnswers) where
   same : unitsPlayed f file b given ≡ outputOf f file s
@@ -100,3 +120,9 @@ module _ (f : Form) (file : List ℕ) (s : Sizes) (b : Buffers) (given : List �
       (λ i. unitsOf f (record { came = ex i; log = ew i .chip .log; image = ew i .chip .image })
       (eventsOf file) (ea i) (ew i .lent .picture) (ew i .lent .rows))
       ∙ same
+
+pub shaded : (f : Form) (top : ℕ) (file : List ℕ) (s : Sizes) (b : Buffers) → Fits file s b → (p : Uc8253) (c : Buffers)
+    → world p c ≡ played f file b → shadesOf f top p (c .states) ≡ shadedOf f top file s
+unfolding shadedOf
+shaded f top file s b fits p c e =
+    (λ i. shadesOf f top (e i .chip) (e i .lent .states)) ∙ shades-alike f file b (fitted file (blank s)) fits top

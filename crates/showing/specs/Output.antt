@@ -11,6 +11,7 @@ use Rattle.output.specs.Units.{unitsOf}
 use Rattle.output.specs.Parts.{unitsFrom}
 use Rattle.controller.specs.World.{Buffers}
 use Rattle.capture.specs.Reading.{eventsOf}
+use Rattle.shades.specs.Shades.{shadesOf}
 use Rattle.showing.specs.declared.Sizes.{Sizes}
 use Rattle.showing.specs.Played.{isPanel, playRefused, played, answersPlayed}
 use Rattle.showing.specs.Shown.{fitted, lentAnswers, blank}
@@ -45,3 +46,11 @@ Output f file s us = us ≡ outputOf f file s
 -- the bytes are its units from one up to another
 abbrev pub Between : Form → List ℕ → Sizes → ℕ → ℕ → List ℕ → Type 0
 Between f file s from next bytes = bytes ≡ unitsFrom from (next - from) (outputOf f file s)
+
+-- the picture at a top (2026-03), from the states that playing in the buffers b leaves
+abbrev pub shadesPlayed : Form → ℕ → List ℕ → Buffers → List (List ℕ)
+shadesPlayed f top file b = let w = played f file b in shadesOf f top (w .chip) (w .lent .states)
+
+-- what is written of the file at a top where so much is lent
+unfoldable pub shadedOf : Form → ℕ → List ℕ → Sizes → List (List ℕ)
+shadedOf f top file s = shadesPlayed f top file (fitted file (blank s))

@@ -12,10 +12,12 @@ ghost use Rattle.capture.specs.Reading.{Reads};
 ghost use Rattle.controller.specs.Lent.{before, after, lent};
 ghost use Rattle.showing.specs.Played.{isPanel, played};
 ghost use Rattle.showing.specs.Shown.{leftBy, lentAnswers, panelLent, Fits};
-ghost use Rattle.showing.specs.Output.{cameOf};
+ghost use Rattle.showing.specs.Output.{cameOf, shadedOf};
+ghost use Rattle.shades.specs.Shades.{shadesOf};
 use capture::Capture;
 use capture::MOST_EVENTS;
 use capture::MOST_PIXELS;
+use controller::Uc8253;
 use libc::STDOUT_FILENO;
 use log::ROWS;
 use outcome::Came;
@@ -159,6 +161,14 @@ pub fn show(
     )
 }
 
+// Writes the picture at a top that playing the file left. What it is of, and the sizes lent, are named
+// for the condition alone.
+fn tone(file: &[u8], form: Form, top: u16, fd: i32, sizes: Sizes, p: Uc8253, states: &[i64]) -> bool
+    requires { ⌜ shadesOf form top p (now states) ≡ shadedOf form top (now file) sizes ⌝ }
+{
+    shades::write(form, top, fd, p, states)
+}
+
 // The capture in buffers of its panel's size: played, and then its picture at a top.
 fn shade_in(
     file: &[u8],
@@ -166,6 +176,7 @@ fn shade_in(
     form: Form,
     top: u16,
     fd: i32,
+    sizes: Sizes,
     answers: &mut [u16],
     old: &mut [u8],
     new: &mut [u8],
@@ -175,6 +186,7 @@ fn shade_in(
     rows: &mut [u64],
 ) -> bool
     requires { ⌜ Reads (now file) c ⌝ }
+    requires { ⌜ Fits (now file) sizes (lent old new states numbers picture rows) ⌝ }
     ensures { λ r. ⌜ after old new states numbers picture rows
         ≡ played form (now (file .entry)) (before old new states numbers picture rows) .lent ⌝ }
 {
@@ -191,7 +203,7 @@ fn shade_in(
         rows,
     );
     let chip = played.chip;
-    shades::write(form, top, fd, chip, states)
+    tone(file, form, top, fd, sizes, chip, states)
 }
 
 // The capture in the front of what is lent, and its picture at a top, 0 standing for 255, written to
@@ -212,6 +224,14 @@ pub fn shade(
         ≡ leftBy form (now (file .entry)) (before old new states numbers picture rows) ⌝ }
 {
     let mut answers = [0u16; MOST_EVENTS];
+    let sizes = Sizes {
+        old: old.len(),
+        new: new.len(),
+        states: states.len(),
+        numbers: numbers.len(),
+        picture: picture.len(),
+        rows: rows.len(),
+    };
     let c = capture::read(file);
     let config = c.config;
     let pixels = capture::pixels(config);
@@ -224,6 +244,7 @@ pub fn shade(
         form,
         top,
         fd,
+        sizes,
         &mut answers,
         old,
         new,

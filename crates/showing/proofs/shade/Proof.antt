@@ -1,6 +1,6 @@
 -- `showing::shade` meets its contract: the front of what is lent is cut to the panel's size, and what lies behind it stays.
 use Rattle.controller.specs.World.{Buffers, buffers}
-use Rattle.showing.proofs.Fitted.{length-front, size-read, left-by}
+use Rattle.showing.proofs.Fitted.{length-front, size-read, fits-cut, left-by}
 use borrow.Author.Needs.{needs}
 use Rattle.showing.proofs.shade.Statement.{statement}
 use Rattle.showing.proofs.shade.Tie as tie
@@ -16,8 +16,18 @@ slice-aggregate-shade-in-4 c = length-front _ _ (c .before .before .before .befo
 
 shade-in-requires : tie.Need-shade-in-requires
 shade-in-requires c κs =
-    let taken = c .before .before .before .before .before .before .before .before .before .before .before .before in
-    taken .read .ensures
+    let third = c .before .before .before .before .before .before .before in
+    let second = third .before in
+    let first = second .before in
+    let counted = first .before in
+    let taken = counted .before .before in
+    let start = taken .before .before .before .before .before .before .before in
+    let a = start .args in
+    let b : Buffers = buffers (a .old .now) (a .new .now) (a .states .now) (a .numbers .now) (a .picture .now) (a .rows .now) in
+    let p = size-read (a .file .now) _ _ (taken .read .ensures .config-is) (counted .pixels .ensures) in (
+      taken .read .ensures,
+      fits-cut (a .file .now) b _ _ _ _ p (first .cut .ensures .0) (second .cut2 .ensures .0) (third .cut3 .ensures .0),
+    )
 
 returns : tie.Need-returns
 returns c =
