@@ -2,3 +2,4 @@ pub mod BitLaws
 pub mod EightLaws
 pub mod FilledLaws
 pub mod NumberLaws
+pub mod OutsideLaws
