@@ -3,3 +3,4 @@ pub mod EightLaws
 pub mod FilledLaws
 pub mod NumberLaws
 pub mod OutsideLaws
+pub mod PanelLaws
