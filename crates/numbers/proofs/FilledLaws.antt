@@ -1,13 +1,16 @@
 -- Entries written in turn: one more, the same by another rule that agrees, and what stands where afterwards.
 use mathlib.Core.Path.{_≡_, refl, sym, ap, _∙_, subst}
-use mathlib.Core.List.{List}
-use Prim.Native.Nat.{ℕ, zero, suc, _+_, _*_, _≤_, _<_}
-use native.Mathlib.Nat.{mul-le-mul-right, suc-mul}
+use mathlib.Core.List.{List, [], _∷_, _++_, append-nil, append-assoc}
+use Prim.Native.Nat.{ℕ, zero, suc, _+_, _*_, _^_, _≤_, _<_}
+use native.Mathlib.Nat.{mul-le-mul, mul-le-mul-right, zero-mul, suc-mul}
 use native.Mathlib.Numerals.{add-one}
 use native.Mathlib.Decide.{decLe}
 use native.Mathlib.Omega.{arith}
-use lib.ListN.{length, getD, set, length-set}
-use lib.Seq.{getD-set-same, getD-set-other}
+use lib.ListN.{length, getD, set, take, length-set, length-append}
+use lib.Seq.{getD-set-same, getD-set-other, take-all, take-suc-set}
+use Rattle.base.specs.InTurn.{inTurn}
+use Rattle.base.specs.Listed.{listed}
+use Rattle.base.proofs.Listed.{length-listed}
 use Rattle.numbers.specs.Filled.{filled, rowsFilled}
 
 pub filled-more : (f : ℕ → ℕ) (p n : ℕ) (l : List ℕ) → set (filled f p n l) (p + n) (f n) ≡ filled f p (n + 1) l
@@ -18,6 +21,10 @@ filled-none f p n l h = ap (λ (k : ℕ). filled f p k l) {x = n} {y = 0} (omega
 
 pub rows-more : (f : ℕ → ℕ → ℕ) (n y : ℕ) (l : List ℕ) → filled (λ x. f x y) (y * n) n (rowsFilled f n y l) ≡ rowsFilled f n (y + 1) l
 rows-more f n y l = rw (add-one y)
+
+-- where a row begins, row and width of 16 bits each
+pub row-place : (y w : ℕ) → y < 65_536 → w < 65_536 → y * w < 2 ^ 32
+row-place y w h k = omega (arith, mul-le-mul {n₁ = y} {m₁ = w} {n₂ = 65_535} {m₂ = 65_535} (omega arith) (omega arith))
 
 pub filled-same : (f g : ℕ → ℕ) (p n : ℕ) (l : List ℕ) → ((x : ℕ) → f x ≡ g x) → filled f p n l ≡ filled g p n l
 filled-same f g p zero l e = refl
@@ -76,3 +83,31 @@ rows-at f n (suc m) l x y d h k b = elim (decLe m y) [
       (omega (arith, suc-mul y n, mul-le-mul-right {m = suc y} {n = m} n (omega arith)))
       ∙ rows-at f n m l x y d h (omega arith) (omega (arith, suc-mul m n))
 ]
+
+-- ---- as a list
+-- what stands up to the last entry written
+pub filled-taken : (f : ℕ → ℕ) (p n : ℕ) (l : List ℕ) → p + n ≤ length l → take (p + n) (filled f p n l) ≡ take p l ++ listed n f
+filled-taken f p zero l h = ap (λ (k : ℕ). take k l) {x = p + 0} {y = p} (omega arith) ∙ sym (append-nil (take p l))
+filled-taken f p (suc n) l h =
+    ap (λ (k : ℕ). take k (filled f p (suc n) l)) {x = p + suc n} {y = suc (p + n)} (omega arith)
+    ∙ take-suc-set (filled f p n l) (p + n) (f n) (omega (arith, length-filled f p n l))
+    ∙ ap (λ (t : List ℕ). t ++ f n ∷ []) (filled-taken f p n l (omega arith))
+    ∙ append-assoc (take p l) (listed n f) (f n ∷ [])
+
+rows-taken : (f : ℕ → ℕ → ℕ) (n m : ℕ) (l : List ℕ) → m * n ≤ length l → take (m * n) (rowsFilled f n m l) ≡ inTurn m (λ y. listed n (λ x. f x y))
+rows-taken f n zero l h = ap (λ (k : ℕ). take k l) {x = 0 * n} {y = 0} (zero-mul n)
+rows-taken f n (suc m) l h =
+    ap (λ (k : ℕ). take k (rowsFilled f n (suc m) l)) {x = suc m * n} {y = m * n + n} (suc-mul m n)
+    ∙ filled-taken (λ x. f x m) (m * n) n (rowsFilled f n m l) (omega (arith, length-rows f n m l, suc-mul m n))
+    ∙ ap (λ (t : List ℕ). t ++ listed n (λ x. f x m)) (rows-taken f n m l (omega (arith, suc-mul m n)))
+
+-- rows written over a list with no more entries are the rows one after the other
+pub rows-in-turn : (f : ℕ → ℕ → ℕ) (n m : ℕ) (l : List ℕ) → length l ≡ m * n → rowsFilled f n m l ≡ inTurn m (λ y. listed n (λ x. f x y))
+rows-in-turn f n m l e =
+    sym (take-all (m * n) (rowsFilled f n m l) (omega (arith, length-rows f n m l, e)))
+    ∙ rows-taken f n m l (omega (arith, e))
+
+pub length-in-rows : (f : ℕ → ℕ → ℕ) (n m : ℕ) → length (inTurn m (λ y. listed n (λ x. f x y))) ≡ m * n
+length-in-rows f n zero = sym (zero-mul n)
+length-in-rows f n (suc m) =
+    omega (arith, length-append (inTurn m (λ y. listed n (λ x. f x y))) (listed n (λ x. f x m)), length-in-rows f n m, length-listed n (λ x. f x m), suc-mul m n)

@@ -1,9 +1,11 @@
 -- Document 01, "A refresh": the number of a pixel, the table that drives it.
-use mathlib.Core.Bool.{Bool, false, _&&_, _||_}
+use mathlib.Core.Bool.{Bool, false, _&&_, _||_, not}
 use mathlib.Core.List.{List, [], _∷_}
-use Prim.Native.Nat.{ℕ, _+_, _-_}
+use Prim.Native.Nat.{ℕ, zero, suc, _+_, _-_}
 use lib.Dec.{eqb, leb}
 use lib.ListN.{getD}
+use Rattle.base.specs.InTurn.{inTurn}
+use Rattle.base.specs.Listed.{listed}
 use Rattle.base.specs.Pick.{pick}
 use Rattle.registers.specs.Area.{inside}
 use Rattle.registers.specs.declared.Registers.{Registers}
@@ -56,3 +58,29 @@ numberOf p old new x y =
 abbrev pub someUndriven : List ℕ → Bool
 someUndriven [] = false
 someUndriven (n ∷ ns) = eqb n 255 || someUndriven ns
+
+-- ---- the whole panel
+-- each pixel's number, row by row
+unfoldable pub panelNumbers : Mapping → List ℕ → List ℕ → List ℕ
+panelNumbers p old new = inTurn (p .rows .count) (λ y. listed (p .columns .count) (λ x. numberOf p old new x y))
+
+-- a test passes at some number below n
+abbrev pub someBelow : ℕ → (ℕ → Bool) → Bool
+someBelow zero t = false
+someBelow (suc n) t = someBelow n t || t n
+
+-- v lies in first .. last and in from .. to, the ends included
+abbrev pub betweenBoth : ℕ → ℕ → ℕ → ℕ → ℕ → Bool
+betweenBoth first last from to v = leb first v && leb v last && leb from v && leb v to
+
+-- column or row v of the panel shows one that lies outside of first .. last, the active area's, or of from .. to, the written one's
+abbrev pub outsideAt : Scan → ℕ → ℕ → ℕ → ℕ → ℕ → Bool
+outsideAt s first last from to v = not (betweenBoth first last from to (shownAt s first last v))
+
+-- some column of the panel shows one outside of an area, or some row does; a panel with no columns or no rows has no pixel
+unfoldable pub outsideSome : Mapping → Bool
+outsideSome p =
+    pick (eqb (p .columns .count) 0) false
+    (pick (eqb (p .rows .count) 0) false
+    (someBelow (p .columns .count) (outsideAt (p .columns) (p .active .x0) (p .active .x1) (p .area .x0) (p .area .x1))
+    || someBelow (p .rows .count) (outsideAt (p .rows) (p .active .y0) (p .active .y1) (p .area .y0) (p .area .y1))))

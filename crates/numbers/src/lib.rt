@@ -1,12 +1,14 @@
 // The number of each pixel of the panel: the table that drives it in a refresh (mod.rs,
 // `ram_pixel` and `luts_of_pixels`).
 ghost use mathlib.Core.Path.{_≡_};
+ghost use mathlib.Core.Bool.{not};
 ghost use Prim.Native.Nat.{ℕ, _<_, _≤_, _+_, _-_, _*_, _^_, min, max};
 ghost use lib.ListN.{length};
 ghost use Rattle.base.specs.Pick.{pick};
 ghost use Rattle.numbers.specs.Filled.{filled, rowsFilled};
 ghost use Rattle.numbers.specs.InnerRow.{noRow, rowAt, numberIn, numberAt, inOrder, Outside, Whole, Some};
 ghost use Rattle.numbers.specs.Number.{mappingOf, reversedOf, shownAt, transitionOf, numberOf, someUndriven};
+ghost use Rattle.numbers.specs.Number.{someBelow, betweenBoth, outsideAt, outsideSome};
 
 mod eights;
 
@@ -407,6 +409,14 @@ fn row_numbers(numbers: &mut [u8], at: usize, old: &[u8], new: &[u8], p: Mapping
     number_row(numbers, at, old, new, columns, active, row, p.white);
 }
 
+// The numbers of row y of the panel, from the slice's front on.
+pub fn row_of_numbers(row: &mut [u8], old: &[u8], new: &[u8], p: Mapping, y: u16)
+    ensures { λ r. ⌜ now (row .exit)
+        ≡ filled (λ x. numberOf p (now (old .entry)) (now (new .entry)) x y) 0 (p .columns .count) (now (row .entry)) ⌝ }
+{
+    row_numbers(row, 0, old, new, p, y);
+}
+
 // The number of each pixel, row by row of the panel.
 pub fn numbers(numbers: &mut [u8], old: &[u8], new: &[u8], p: Mapping)
     ensures { λ r. ⌜ now (numbers .exit)
@@ -430,4 +440,59 @@ pub fn some_undriven(numbers: &[u8]) -> bool
         i += 1;
     }
     any
+}
+
+// Whether c lies outside of first ..= last or of from ..= to.
+fn outside(first: u16, last: u16, from: u16, to: u16, c: u32) -> bool
+    ensures { λ r. ⌜ r ≡ not (betweenBoth first last from to c) ⌝ }
+{
+    if c < first as u32 {
+        return true;
+    }
+    if (last as u32) < c {
+        return true;
+    }
+    if c < from as u32 {
+        return true;
+    }
+    if (to as u32) < c {
+        return true;
+    }
+    false
+}
+
+// Whether some column or row of the panel shows one outside. Those shown lie side by side, so the
+// first and the last tell.
+fn ends_outside(scan: Scan, first: u16, last: u16, from: u16, to: u16) -> bool
+    requires { ⌜ 0 < scan .count ⌝ }
+    ensures { λ r. ⌜ r ≡ someBelow (scan .count) (outsideAt scan first last from to) ⌝ }
+{
+    let a = outside(first, last, from, to, shown(scan, first, last, 0));
+    let b = outside(
+        first,
+        last,
+        from,
+        to,
+        shown(scan, first, last, scan.count - 1),
+    );
+    a | b
+}
+
+// Whether some pixel of the panel is left alone, by the areas: no plane is looked at.
+pub fn some_outside(p: Mapping) -> bool
+    ensures { λ r. ⌜ r ≡ outsideSome p ⌝ }
+{
+    let columns = p.columns;
+    let rows = p.rows;
+    if columns.count == 0 {
+        return false;
+    }
+    if rows.count == 0 {
+        return false;
+    }
+    let active = p.active;
+    let area = p.area;
+    let across = ends_outside(columns, active.x0, active.x1, area.x0, area.x1);
+    let down = ends_outside(rows, active.y0, active.y1, area.y0, area.y1);
+    across | down
 }

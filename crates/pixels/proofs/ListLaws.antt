@@ -91,6 +91,14 @@ module _ {A B : Type 0} (f : B → A → A) where
   pub changed-done : (bs : List B) (l₀ l : List A) (i : ℕ) → Changed f bs l₀ l i → min (length l₀) (length bs) ≤ i → l ≡ beside f bs l₀
   changed-done bs l₀ l i c h = c .is ∙ beside-done i bs l₀ h
 
+  -- by one list, and by another from where that ends
+  pub beside-on : (cs bs : List B) (l : List A) → take (length cs) (beside f cs l) ++ beside f bs (drop (length cs) (beside f cs l))
+      ≡ beside f (cs ++ bs) l
+  beside-on [] bs l = refl
+  beside-on (a ∷ cs) [] [] = refl
+  beside-on (a ∷ cs) (b ∷ bs) [] = refl
+  beside-on (a ∷ cs) bs (x ∷ l) = ap (λ (t : List A). f a x ∷ t) (beside-on cs bs l)
+
   -- an entry afterwards: with something beside it, and without
   pub beside-at : (i : ℕ) (bs : List B) (l : List A) (e : B) (d : A) → i < length bs → i < length l
       → getD (beside f bs l) i d ≡ f (getD bs i e) (getD l i d)

@@ -1,19 +1,14 @@
 -- `numbers::numbers` meets its contract. After y turns the first y rows are written.
 use borrow.Author.Needs.{needs}
 use mathlib.Core.Path.{_≡_, refl, ap, _∙_}
-use Prim.Native.Nat.{ℕ, _-_, _*_, _≤_, _<_, _^_}
+use Prim.Native.Nat.{ℕ, _-_, _*_, _≤_}
 use native.Mathlib.Omega.{arith}
-use native.Mathlib.Nat.{mul-le-mul}
 use lib.ListN.{length}
 use Rattle.numbers.specs.Filled.{filled, rowsFilled}
 use Rattle.numbers.specs.Number.{numberOf}
-use Rattle.numbers.proofs.FilledLaws.{rows-more, length-rows}
+use Rattle.numbers.proofs.FilledLaws.{rows-more, length-rows, row-place}
 use Rattle.numbers.proofs.numbers.Statement.{statement}
 use Rattle.numbers.proofs.numbers.Tie as tie
-
--- a row and a width of 16 bits each
-small : (y w : ℕ) → y < 65_536 → w < 65_536 → y * w < 2 ^ 32
-small y w h k = omega (arith, mul-le-mul {n₁ = y} {m₁ = w} {n₂ = 65_535} {m₂ = 65_535} (omega arith) (omega arith))
 
 abbrev Inv-loop : tie.InvT-loop
 Inv-loop numbers₀ old new p width height y₀ numbers y = (numbers ≡ rowsFilled (numberOf p old new) (p .columns .count) y numbers₀) × (y ≤ height)
@@ -25,10 +20,10 @@ loop-holds : tie.Need-loop-holds Inv-loop μ-loop
 loop-holds c = (refl, omega arith)
 
 mul-row-numbers : tie.Need-mul-row-numbers Inv-loop μ-loop
-mul-row-numbers c = record { fits = omega (arith, small (c .before .before .loop .y) (c .before .before .before .before .before .before .before .before .args .p .columns .count) (search needs) (search needs)) }
+mul-row-numbers c = record { fits = omega (arith, row-place (c .before .before .loop .y) (c .before .before .before .before .before .before .before .before .args .p .columns .count) (search needs) (search needs)) }
 
 row-numbers-requires : tie.Need-row-numbers-requires Inv-loop μ-loop
-row-numbers-requires c κs = small (c .before .before .loop .y) (c .before .before .before .before .before .before .before .before .args .p .columns .count) (search needs) (search needs)
+row-numbers-requires c κs = row-place (c .before .before .loop .y) (c .before .before .before .before .before .before .before .before .args .p .columns .count) (search needs) (search needs)
 
 loop-again : tie.Need-loop-again Inv-loop μ-loop
 loop-again c =
