@@ -1,13 +1,1 @@
-pub mod Parts
-pub mod Glass
-pub mod Sound
-pub mod Ends
-pub mod TurnedAway
-pub mod Meanwhile
-pub mod SoftReset
-pub mod OneFault
-pub mod Keeps
-pub mod OneGigahertz
-pub mod VcomRule
-pub mod Wide
-pub mod Quiet
+

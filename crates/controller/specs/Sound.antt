@@ -4,9 +4,9 @@ use mathlib.Core.Bool.{true, false}
 use Prim.Native.Nat.{_≤_}
 use Rattle.config.specs.Refusal.{refusal}
 use Rattle.registers.specs.Range.{InRange}
-use Rattle.pixels.specs.States.{everyState, everyNumber}
+use Rattle.pixels.specs.States.{everyState}
 use Rattle.controller.specs.World.{World}
-use Rattle.controller.specs.TurnedBack.{badStage, badWork, lentFits, refreshRuns}
+use Rattle.controller.specs.TurnedBack.{badStage, badWork, lentFits}
 
 pub record Sound (w : World) : Type 0 where
   pub config : refusal (w .chip .config) ≡ 0
@@ -16,5 +16,3 @@ pub record Sound (w : World) : Type 0 where
   pub stored : w .chip .log .stored ≤ 1024
   pub fits : lentFits (w .chip .config) (w .lent) ≡ true
   pub states : everyState (w .chip .config .optics .«full_swing») (w .lent .states) ≡ true
-  -- the numbers are those of a refresh's start while it runs
-  pub numbers : refreshRuns (w .chip .operation .work) ≡ true → everyNumber (w .lent .numbers) ≡ true
