@@ -1,1 +1,1 @@
-
+pub mod TurnedAway
