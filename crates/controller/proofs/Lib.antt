@@ -1,1 +1,2 @@
 pub mod TurnedAway
+pub mod Parts
