@@ -1,2 +1,4 @@
 pub mod TurnedAway
 pub mod Parts
+pub mod Glass
+pub mod Keeps
