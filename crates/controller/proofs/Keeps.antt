@@ -31,6 +31,8 @@ use Rattle.controller.specs.DataByte.{moreOf, purposeOf, pastRow, pixelC
 use Rattle.controller.specs.Reading as byte
 use Rattle.controller.specs.Reset.{cutBy, cleared, loweredBy, raisedBy, resetEdge}
 use Rattle.controller.specs.Counting.{own}
+use Rattle.controller.specs.Ask.{Ask, command, datum, reading, advance, reset, vcomRule, taking, askBusy, askDeadline, askBit, askRow, askPicture}
+use Rattle.controller.specs.Ask.{whenOf, clockWhen, recordAfter}
 
 pub record Kept (p q : Uc8253) : Type 0 where
   pub config : q .config ≡ p .config
@@ -166,3 +168,34 @@ pub kept-edge : (asserted : Bool) (p : Uc8253) → Kept p (resetEdge own asserte
 unfolding resetEdge
 kept-edge true p = kept-lowered-by (p .mode .power) p
 kept-edge false p = kept-raised-by (p .mode .power) p
+
+-- ---- every call: the configuration stays, and the clock becomes the larger of itself and the time given
+pub config-after : (a : Ask) (p : Uc8253) → recordAfter own a p .config ≡ p .config
+unfolding recordAfter
+config-after (command t c) p = kept-command c (arrived t p) .config ∙ kept-arrived t p .config
+config-after (datum t b) p = kept-data b (arrived t p) .config ∙ kept-arrived t p .config
+config-after (reading t) p = kept-reading (arrived t p) .config ∙ kept-arrived t p .config
+config-after (advance t) p = kept-arrived t p .config
+config-after (reset t asserted) p = kept-edge asserted (arrived t p) .config ∙ kept-arrived t p .config
+config-after (vcomRule t x) p = kept-arrived t p .config
+config-after taking p = refl
+config-after (askBusy t) p = refl
+config-after askDeadline p = refl
+config-after (askBit older x y) p = refl
+config-after (askRow y) p = refl
+config-after (askPicture top wide) p = refl
+
+pub clock-after : (a : Ask) (p : Uc8253) → recordAfter own a p .now ≡ clockWhen (whenOf a) (p .now)
+unfolding recordAfter
+clock-after (command t c) p = kept-command c (arrived t p) .clock ∙ kept-arrived t p .clock
+clock-after (datum t b) p = kept-data b (arrived t p) .clock ∙ kept-arrived t p .clock
+clock-after (reading t) p = kept-reading (arrived t p) .clock ∙ kept-arrived t p .clock
+clock-after (advance t) p = kept-arrived t p .clock
+clock-after (reset t asserted) p = kept-edge asserted (arrived t p) .clock ∙ kept-arrived t p .clock
+clock-after (vcomRule t x) p = kept-arrived t p .clock
+clock-after taking p = refl
+clock-after (askBusy t) p = refl
+clock-after askDeadline p = refl
+clock-after (askBit older x y) p = refl
+clock-after (askRow y) p = refl
+clock-after (askPicture top wide) p = refl
