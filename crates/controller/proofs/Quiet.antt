@@ -374,6 +374,15 @@ pub plane-quiet : (mine : Use → Bool) → mine use-for.Quiet ≡ false → min
 unfolding planeByte
 plane-quiet mine q x b p l g r = deaf-taken mine q x b (writtenOf (p .regs)) l (p .stage .current) (g .runs r)
 
+-- where a byte is taken, nothing runs
+pub taken-free : (n : Params) (a : Active) (p : Uc8253) → GuardedIn p → p .stage .current ≡ current.Active a → a .kind ≡ kind.Write n
+    → takesByte (a .kind) (a .received) ≡ true → busy (p .operation .work) ≡ false
+taken-free n a p g e k t =
+    by-cases (busy (p .operation .work))
+    (λ r. absurd (true≢false (sym t ∙ ap (λ (x : Kind). takesByte x (a .received)) k
+    ∙ full-takes n (a .received) (ap (λ (x : Kind). spent x (a .received)) (sym k) ∙ ap deaf (sym e) ∙ g .runs r))))
+    (λ r. r)
+
 -- ---- a read
 spared-after-read : (k : Kind) (a : Active) (p : Uc8253) → GuardedIn p → Under (current.Active a) p → Spared p (afterRead k a p)
 spared-after-read (kind.Write n) a p g h = spared-whole p g

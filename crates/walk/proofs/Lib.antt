@@ -7,13 +7,3 @@ pub mod Edges
 pub mod Calmness
 pub mod Aptness
 pub mod Follow
-pub mod Pixel
-pub mod Lending
-pub mod Demand
-pub mod OnePixel
-pub mod Example
-pub mod TwoDriven
-pub mod Inhabited
-pub mod Acceptance
-pub mod Quiet
-pub mod QuietExample
