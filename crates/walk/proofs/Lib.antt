@@ -7,3 +7,9 @@ pub mod Edges
 pub mod Calmness
 pub mod Aptness
 pub mod Follow
+pub mod Pixel
+pub mod Lending
+pub mod Demand
+pub mod OnePixel
+pub mod Example
+pub mod Quiet
