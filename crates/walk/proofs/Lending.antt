@@ -7,7 +7,7 @@ use lib.Dec.{eqb, ltb}
 use lib.ListN.{length}
 use borrow.Author.Tests.{eqb-true, ltb-true}
 use Rattle.base.specs.Pick.{pick}
-use Rattle.base.proofs.Cases.{by-cases}
+use Rattle.base.proofs.Cases.{by-cases, both}
 use Rattle.config.specs.declared.Uc8253Config.{Uc8253Config}
 use Rattle.numbers.specs.Number.{panelNumbers}
 use Rattle.controller.specs.declared.Uc8253.{Uc8253}
@@ -26,7 +26,7 @@ use Rattle.controller.proofs.Sound.{home, never-turned}
 use Rattle.walk.specs.Machine.{Fed}
 use Rattle.controller.specs.Ask.{Ask, command, datum, reading, advance, reset, vcomRule, taking, askBusy, askDeadline, askBit, askRow, askPicture}
 use Rattle.walk.specs.Calls.{Call, handed, result, turned, next, OwnFor, OwnBuffers, Bytes, fedAt, fedBy, start}
-use Rattle.controller.specs.Ask.{IsByte, recordAfter, oldAfter, newAfter, rowsAfter, lentAfter, did, refusedBy, writes}
+use Rattle.controller.specs.Ask.{IsByte, recordAfter, oldAfter, newAfter, rowsAfter, lentAfter, didBy, did, refusedBy, writes}
 use Rattle.walk.proofs.Seen.{jobOf, machineOf}
 use Rattle.walk.proofs.Pixel.{ServesJob}
 
@@ -46,6 +46,10 @@ spared askDeadline w e = refl
 spared (askBit older x y) w e = refl
 spared (askRow y) w e = refl
 spared (askPicture top wide) w e = refl
+
+pub spares : (a : Ask) (w : World) → writes a ≡ false → did a w .lent ≡ w .lent
+unfolding didBy
+spares a w e = both (λ (v : World). v .lent ≡ w .lent) (eqb (refusedBy a w) 0) (spared a w e) refl
 
 -- the place after an accepted call
 place-on : (a : Ask) (at : World) (l : Buffers) (t : Bool) → t ≡ false → (writes a ≡ true → l ≡ at .lent)
@@ -165,7 +169,7 @@ module _ (w : World) (s : Sound w) where
   serves-work work.SoftReset = tt
   serves-work work.HardwareReset = tt
   serves-work (work.Refresh r) = record {
-    known = numbers-known (w .chip) (w .lent .old) (w .lent .new) (s .chip);
+    known = numbers-known (w .chip) (w .lent .old) (w .lent .new);
     long = numbers-length (w .chip) (w .lent .old) (w .lent .new) ∙ sym (states-long w s);
   }
 
