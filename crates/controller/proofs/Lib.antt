@@ -1,1 +1,3 @@
+pub mod Meanwhile
+pub mod OneFault
 pub mod TurnedAway
