@@ -1,3 +1,4 @@
 pub mod Meanwhile
 pub mod OneFault
+pub mod SoftReset
 pub mod TurnedAway
