@@ -1,5 +1,5 @@
--- What may come while a command is under way, each an accepted call at its time, and what it leaves of record and rows. A byte's use and the
--- kind of the command decide what a call leaves: the rest of it is the arrival.
+-- What may come while a command is under way, each an accepted call at its time, and what it leaves of record and rows: its arrival, then
+-- what the use of a byte or the kind of the command decides.
 use mathlib.Core.Path.{_≡_, refl, ap, _∙_}
 use mathlib.Core.List.{List, [], _∷_}
 use Prim.Native.Nat.{ℕ, _+_, max}

@@ -1,5 +1,6 @@
--- One fault, one row (2026-02): what is told of a table load, 20 to 24, from its command byte to its close, whatever data bytes, reads and
--- advances come between. The invariant: after n bytes the command under way has counted them, and has told of an extra one just if n passes 60.
+-- One fault, one row (2026-02): what is told of a table load, 20 to 24, from its command byte to its close, whatever data bytes, reads
+-- and advances come between. The invariant: after n bytes the command under way has counted them, and has told of an extra one just if n
+-- passes 60.
 use mathlib.Core.Path.{_≡_, refl, sym, ap, _∙_, subst}
 use mathlib.Core.Bool.{true}
 use mathlib.Core.List.{List, [], _∷_}
@@ -220,7 +221,7 @@ module _ (c : ℕ) (lo : 0x20 ≤ c) (hi : c ≤ 0x24) where
   unfolding faults
   extra-byte xs u b n a d s is60 t =
       let s60 : LoadsIn 60 a d = subst (λ m. LoadsIn m a d) is60 s in
-      let v : Diary = leaving (Told (ExtraData (a .command))) (max (d .chip .now) u) (under (extraOf (moreOf a)) (timed u (d .chip))) d in
+      let v : Diary = leaving (Told (ExtraData (a .command))) (max (d .chip .now) u) (usedBy own use-for.Extra a b (timed u (d .chip))) d in
       let long : 60 < 60 + (1 + bytesIn xs) = omega arith in
       ap (λ (x : Diary). closes t (cameAll xs x)) (put n a d s u use-for.Extra b (use-extra b a _ _ s60))
       ∙ past xs 61 (extraOf (moreOf a)) v

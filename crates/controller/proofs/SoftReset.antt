@@ -22,8 +22,8 @@ use Rattle.controller.specs.declared.Current.the-variants as current
 use Rattle.controller.specs.declared.Work.{Work}
 use Rattle.controller.specs.declared.Work.the-variants as work
 use Rattle.controller.specs.declared.Uc8253.{Uc8253}
-use Rattle.controller.specs.declared.notes.Note.the-variants.{Quiet}
 use Rattle.controller.specs.declared.notes.Note.{Note}
+use Rattle.controller.specs.declared.notes.Note.the-variants.{Quiet}
 use Rattle.controller.specs.declared.uses.Use.{Use}
 use Rattle.controller.specs.declared.uses.Use.the-variants as use-for
 use Rattle.controller.specs.World.{Buffers}
@@ -31,7 +31,8 @@ use Rattle.controller.specs.Setters.{withNow, withOperation, withCurrent
 use Rattle.controller.specs.Tell.{rowNoted}
 use Rattle.controller.specs.Arrives.{rest, timed, endedBy, ended, arrived}
 use Rattle.controller.specs.Command.{closingNote}
-use Rattle.controller.specs.DataByte.{moreOf, softOf, doing, purposeOf, under, softReset, usedNote, forOld, forNew, putAt, takenBy, planeByte}
+use Rattle.controller.specs.DataByte.{moreOf, softOf, doing, purposeOf, under, softReset, usedNote}
+use Rattle.controller.specs.DataByte.{forOld, forNew, putAt, takenBy, planeByte}
 use Rattle.controller.specs.Planes.{copiedBy, oldArrived}
 use Rattle.controller.specs.Glass.{drivenAt, statesBy, pictureBy}
 use Rattle.controller.specs.TurnedBack.{refreshRuns, endsRefresh}
@@ -41,10 +42,11 @@ use Rattle.controller.specs.Ask.{recordAfter, oldAfter, newAfter, rowsAf
 use Rattle.controller.proofs.Meanwhile.{Meanwhile, datum, reading, advance, askOf, Diary, cameOne, cameAll}
 use Rattle.controller.proofs.Meanwhile.{diagnosed, closes, leaving, arrival, here, byte-is, read-is, close-is}
 
--- all but the clock, the command under way and what runs: the diagnostics, stored and dropped, and their rows are in it
+-- all but the clock, the command under way and what runs
 abbrev pub apart : Uc8253 → Uc8253
 apart p = withNow 0 (withCurrent current.Idle (withOperation rest p))
 
+-- the diagnostics, stored and dropped, and their rows are in it
 abbrev pub besides : Diary → Diary
 besides d = record { chip = apart (d .chip); rows = d .rows }
 
@@ -178,7 +180,7 @@ module _ (t : ℕ) (a : Active) (p : Uc8253) (is : p .stage .current ≡ current
   unfolding lentAfter oldAfter newAfter
   read-lent n f = ap (λ (d : Diary). withRows (d .rows) (lentAfter own (ask.advance t) p l)) (read-is t diary a is n f)
 
--- and an advance nothing but what was lent, where nothing runs or the soft reset
+-- and an advance leaves all as it was lent, where nothing runs or the soft reset does
 wait-lent : (t : ℕ) (p : Uc8253) → resets (p .operation .work) ≡ true → (l : Buffers) → lentAfter own (ask.advance t) p l ≡ l
 unfolding lentAfter oldAfter newAfter rowsAfter oldArrived drivenAt endsRefresh
 wait-lent t p runs l =
@@ -227,7 +229,7 @@ module _ (u b : ℕ) (a : Active) (d : Diary) (is : d .chip .stage .current ≡ 
     λ l. byte-lent u a (d .chip) is l use-for.Soft b softly refl refl refl,
   )
 
-  -- no later byte of the command tells or changes anything (no kind 4, no register), nor does a read
+  -- no later byte of the command tells or changes anything (no kind 4, no register), nor does a read or an advance
   pub soft-later : (xs : List Meanwhile) → besides (cameAll xs softened) ≡ besides softened
   soft-later xs = later xs _ softened spent .left
 
@@ -235,7 +237,7 @@ module _ (u b : ℕ) (a : Active) (d : Diary) (is : d .chip .stage .current ≡ 
   pub soft-spares : (xs : List Meanwhile) (x : Meanwhile) (l : Buffers) → lentAfter own (askOf x) (cameAll xs softened .chip) l ≡ l
   soft-spares xs x l = spares x _ (cameAll xs softened .chip) (later xs _ softened spent .spent) l
 
-  -- nor does its end tell anything, whenever that comes (no kind 5)
+  -- nor does its end tell anything, whenever that comes (no kind 5); the arrival of the call that ends it is an advance
   pub soft-closed : (xs : List Meanwhile) (t : ℕ) → closes t (cameAll xs softened) ≡ diagnosed softened
   soft-closed xs t =
       let on = later xs _ softened spent in
