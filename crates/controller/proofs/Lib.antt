@@ -2,3 +2,12 @@ pub mod Meanwhile
 pub mod OneFault
 pub mod SoftReset
 pub mod TurnedAway
+pub mod Parts
+pub mod Glass
+pub mod Keeps
+pub mod Sound
+pub mod Ends
+pub mod Wide
+pub mod Quiet
+pub mod OneGigahertz
+pub mod VcomRule
