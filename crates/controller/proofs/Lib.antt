@@ -1,6 +1,3 @@
-pub mod Meanwhile
-pub mod OneFault
-pub mod SoftReset
 pub mod TurnedAway
 pub mod Parts
 pub mod Glass
@@ -11,3 +8,6 @@ pub mod Wide
 pub mod Quiet
 pub mod OneGigahertz
 pub mod VcomRule
+pub mod Meanwhile
+pub mod OneFault
+pub mod SoftReset

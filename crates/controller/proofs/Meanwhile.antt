@@ -89,31 +89,25 @@ closes t d = noting (closeNote (arrived t (d .chip) .stage .current)) (max (d .c
 abbrev pub leaving : Note → ℕ → Uc8253 → Diary → Diary
 leaving n now q d = record { chip = withLog (logNoted n (q .log)) q; rows = rowNoted n now (d .chip .log) (d .rows) }
 
--- an arrival has its clock, and leaves the command under way and the log as they were
-pub record Arrival (t : ℕ) (p q : Uc8253) : Type 0 where
-  pub stage : q .stage ≡ p .stage
-  pub log : q .log ≡ p .log
-  pub now : q .now ≡ max (p .now) t
-
-arrival-by : (x : Work) (t : ℕ) (p : Uc8253) → Arrival t p (endedBy x (timed t p))
+-- an arrival leaves the command under way as it was
+stage-by : (x : Work) (p : Uc8253) → endedBy x p .stage ≡ p .stage
 unfolding endedRefresh
-arrival-by work.Nothing t p = record { stage = refl; log = refl; now = refl }
-arrival-by work.PowerOn t p = record { stage = refl; log = refl; now = refl }
-arrival-by work.PowerOff t p = record { stage = refl; log = refl; now = refl }
-arrival-by work.DeepSleep t p = record { stage = refl; log = refl; now = refl }
-arrival-by work.SoftReset t p = record { stage = refl; log = refl; now = refl }
-arrival-by work.HardwareReset t p = record { stage = refl; log = refl; now = refl }
-arrival-by (work.Refresh r) t p = record { stage = refl; log = refl; now = refl }
+stage-by work.Nothing p = refl
+stage-by work.PowerOn p = refl
+stage-by work.PowerOff p = refl
+stage-by work.DeepSleep p = refl
+stage-by work.SoftReset p = refl
+stage-by work.HardwareReset p = refl
+stage-by (work.Refresh r) p = refl
 
-pub arrival : (t : ℕ) (p : Uc8253) → Arrival t p (arrived t p)
+pub stage-arrived : (t : ℕ) (p : Uc8253) → arrived t p .stage ≡ p .stage
 unfolding arrived ended
-arrival t p =
-    both (Arrival t p) (leb (p .operation .until) (max (p .now) t)) (arrival-by (p .operation .work) t p)
-    (record { stage = refl; log = refl; now = refl })
+stage-arrived t p =
+    both (λ (q : Uc8253). q .stage ≡ p .stage) (leb (p .operation .until) (max (p .now) t)) (stage-by (p .operation .work) (timed t p)) refl
 
 module _ (t : ℕ) (d : Diary) (a : Active) (is : d .chip .stage .current ≡ current.Active a) where
   pub here : arrived t (d .chip) .stage .current ≡ current.Active a
-  here = ap (λ (s : Stage). s .current) (arrival t (d .chip) .stage) ∙ is
+  here = ap (λ (s : Stage). s .current) (stage-arrived t (d .chip)) ∙ is
 
   -- a data byte, of which the use is known
   pub byte-is : (u : Use) (b : ℕ) → purposeOf a b ≡ u

@@ -41,8 +41,9 @@ use Rattle.controller.specs.DataByte.{moreOf, extraOf, doing, purposeOf,
 use Rattle.controller.specs.Counting.{own}
 use Rattle.controller.specs.Ask.{command, recordAfter, rowsAfter}
 use Rattle.controller.specs.Ask as ask
+use Rattle.controller.proofs.Keeps.{kept-arrived}
 use Rattle.controller.proofs.Meanwhile.{Meanwhile, datum, reading, advance, Diary, cameOne, cameAll, bytesIn, clockAfter}
-use Rattle.controller.proofs.Meanwhile.{Diagnosed, diagnosed, closes, leaving, arrival, byte-is, read-is, close-is}
+use Rattle.controller.proofs.Meanwhile.{Diagnosed, diagnosed, closes, leaving, byte-is, read-is, close-is}
 
 -- ---- the statement: the rows of a load of n bytes
 -- the diagnostics and their rows after reports, one after the other
@@ -316,7 +317,7 @@ module _ (c : ℕ) (lo : 0x20 ≤ c) (hi : c ≤ 0x24) where
     -- it tells no more than the close of the command before it
     pub begin-told : diagnosed (cameOne (command u c) d) ≡ closes u d
     unfolding begun
-    begin-told = ap diagnosed begin-is ∙ rw (arrival u (d .chip) .log)
+    begin-told = ap diagnosed begin-is ∙ rw (kept-arrived u (d .chip) .log)
 
     -- from the command byte on, which is taken, up to the close by the next one or by a reset
     pub table-told : (xs : List Meanwhile) (t : ℕ)
@@ -332,7 +333,7 @@ module _ (c : ℕ) (lo : 0x20 ≤ c) (hi : c ≤ 0x24) where
         = rw (← zero-add (bytesIn xs))
         (within xs 0 _ begins (record { is = refl; command-is = refl; kind-is = refl; count = refl; extra = refl; idle = idle })
         (omega arith) t) in
-        ap (λ (v : Diary). closes t (cameAll xs v)) begin-is ∙ on ∙ (λ i. load (arrival u (d .chip) .now i) (sym begin-is i))
+        ap (λ (v : Diary). closes t (cameAll xs v)) begin-is ∙ on ∙ (λ i. load (kept-arrived u (d .chip) .clock i) (sym begin-is i))
 
     -- the same where the log is full as the load begins: one row is dropped for 61 bytes and more, as for any fault, and none stored
     pub full-told : closes u d .log .stored ≡ 1024 → (xs : List Meanwhile) (t : ℕ) → 60 < bytesIn xs

@@ -39,8 +39,9 @@ use Rattle.controller.specs.TurnedBack.{refreshRuns, endsRefresh}
 use Rattle.controller.specs.Counting.{own}
 use Rattle.controller.specs.Ask as ask
 use Rattle.controller.specs.Ask.{recordAfter, oldAfter, newAfter, rowsAfter, lentAfter}
+use Rattle.controller.proofs.Keeps.{kept-arrived}
 use Rattle.controller.proofs.Meanwhile.{Meanwhile, datum, reading, advance, askOf, Diary, cameOne, cameAll}
-use Rattle.controller.proofs.Meanwhile.{diagnosed, closes, leaving, arrival, here, byte-is, read-is, close-is}
+use Rattle.controller.proofs.Meanwhile.{diagnosed, closes, leaving, here, byte-is, read-is, close-is}
 
 -- all but the clock, the command under way and what runs
 abbrev pub apart : Uc8253 → Uc8253
@@ -225,7 +226,7 @@ module _ (u b : ℕ) (a : Active) (d : Diary) (is : d .chip .stage .current ≡ 
   pub soft-silent : (diagnosed softened ≡ diagnosed d)
       × ((l : Buffers) → lentAfter own (ask.datum u b) (d .chip) l ≡ lentAfter own (ask.advance u) (d .chip) l)
   soft-silent = (
-    ap diagnosed soft-is ∙ rw (arrival u (d .chip) .log),
+    ap diagnosed soft-is ∙ rw (kept-arrived u (d .chip) .log),
     λ l. byte-lent u a (d .chip) is l use-for.Soft b softly refl refl refl,
   )
 
