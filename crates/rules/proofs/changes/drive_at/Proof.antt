@@ -38,5 +38,4 @@ returns-3 c = no _ (sym (c .before .ends-refresh .ensures) ∙ c .if1 .left) ref
 
 pub drive-at-spec : {M : Type 1} → statement M
 drive-at-spec =
-    tie.close
-    (tie.spec (λ c κs. search needs) (λ c κs. search needs) returns (λ c κs. search needs) returns-2 returns-3)
+    tie.close (tie.spec (λ c κs. search needs) (λ c κs. search needs) returns (λ c κs. search needs) returns-2 returns-3)
