@@ -17,7 +17,11 @@ use Rattle.controller.specs.declared.Work.{Work}
 use Rattle.controller.specs.declared.Work.the-variants as work
 use Rattle.controller.specs.World.{World}
 use Rattle.controller.specs.Arrives.{timed, arrived}
+use Rattle.numbers.specs.Number.{panelNumbers}
+use Rattle.controller.specs.declared.drives.Drive.{Drive}
+use Rattle.controller.specs.declared.drives.Drive.the-variants as drive
 use Rattle.controller.specs.Command.{inReset}
+use Rattle.controller.specs.Refresh.{mappingNow}
 use Rattle.controller.specs.Planes.{oldArrived}
 use Rattle.controller.specs.Glass.{drivenAt, numbersNow, statesBy}
 use Rattle.controller.specs.TurnedBack.{cuts, endsRefresh}
@@ -29,9 +33,9 @@ use Rattle.controller.proofs.Keeps.{kept-arrived}
 use Rattle.controller.proofs.Quiet.{GuardedIn, guarded-arrived}
 use Rattle.controller.proofs.Sound.{sound-arrived, sound-begun}
 use Rattle.controller.proofs.TurnedAway.{doneTo}
-use Rattle.walk.specs.Machine.{Ended, nothing, whole, cut, Out, quiet, done, reached, due, settled, commanded, given, cutJob, lowered, raised, stepped}
-use Rattle.walk.specs.Kept.{Task, powersUp, powersDown, fallsAsleep, resetsSoftly, resetsHardly, drives, Job, idle, until, Machine}
-use Rattle.walk.specs.Parts.{withClock, withJob, withRule}
+use Rattle.walk.specs.Machine.{Ended, nothing, whole, cut, Out, quiet, settled, commanded, given, lowered, raised, stepped}
+use Rattle.walk.specs.Kept.{Noted, Machine}
+use Rattle.walk.specs.Parts.{withRule}
 use Rattle.walk.proofs.Seen.{seen, machineOf, statesAfter, Calm}
 use Rattle.walk.proofs.Arrival.{seen-arrived, waits-arrived}
 use Rattle.walk.proofs.Commands.{seen-command}
@@ -92,93 +96,106 @@ cuts-none power.Running = refl
 cuts-none power.Asleep = refl
 cuts-none power.InReset = refl
 
-module _ (p : Uc8253) (old new : List ℕ) (ss : List ℤ) where
-  -- the states by what a call drives, and by how the machine's refresh ends
-  abbrev Moves : Bool → ℕ → Ended → Type 0
-  Moves asserted t e =
-      statesBy (drivenAt own asserted t p) p old new ss
-      ≡ statesAfter (p .config .optics .«full_swing») (p .config .optics .«positive_drives_black») e ss
+-- how the machine's refresh ends at a call is what the call drives: said of anything, F, that is seen of the first and G of the second
+module _ {X : Type 0} (p : Uc8253) (old new : List ℕ) (F : Ended → X) (G : Drive → X) where
+  -- the refresh under way, as the machine noted it at its start
+  abbrev noting : Refresh → Noted
+  noting r = record { since = p .operation .started; wave = p .waveform; area = r .area; numbers = panelNumbers (mappingNow p) old new }
 
-  settles-by : (t : ℕ) (x : Work) → p .operation .work ≡ x → Moves false t (settled (p .config) t (seen p old new) .ended)
-  unfolding drivenAt endsRefresh numbersNow settled
-  settles-by t work.Nothing e = rw e
-  settles-by t work.PowerOn e = by-cases (leb (p .operation .until) (max (p .now) t)) (λ l. rw (e, l)) (λ l. rw (e, l))
-  settles-by t work.PowerOff e = by-cases (leb (p .operation .until) (max (p .now) t)) (λ l. rw (e, l)) (λ l. rw (e, l))
-  settles-by t work.DeepSleep e = by-cases (leb (p .operation .until) (max (p .now) t)) (λ l. rw (e, l)) (λ l. rw (e, l))
-  settles-by t work.SoftReset e = by-cases (leb (p .operation .until) (max (p .now) t)) (λ l. rw (e, l)) (λ l. rw (e, l))
-  settles-by t work.HardwareReset e = by-cases (leb (p .operation .until) (max (p .now) t)) (λ l. rw (e, l)) (λ l. rw (e, l))
-  settles-by t (work.Refresh r) e =
-      by-cases (leb (p .operation .until) (max (p .now) t)) (λ l. rw (e, l)) (λ l. rw (e, l, cuts-none (p .mode .power)))
+  module _ (none : F nothing ≡ G drive.Nothing) (all : (r : Refresh) → F (whole (noting r)) ≡ G drive.Whole)
+      (some : (r : Refresh) (n : ℕ) → F (cut n (noting r)) ≡ G (drive.First n)) where
+    abbrev Settles : ℕ → Type 0
+    Settles t = F (settled (p .config) t (seen p old new) .ended) ≡ G (drivenAt own false t p)
 
-  glass-settles : (t : ℕ) → Moves false t (settled (p .config) t (seen p old new) .ended)
-  glass-settles t = settles-by t (p .operation .work) refl
+    settles-by : (t : ℕ) (x : Work) → p .operation .work ≡ x → Settles t
+    unfolding drivenAt endsRefresh settled
+    settles-by t work.Nothing e = rw e none
+    settles-by t work.PowerOn e = by-cases (leb (p .operation .until) (max (p .now) t)) (λ l. rw (e, l) none) (λ l. rw (e, l) none)
+    settles-by t work.PowerOff e = by-cases (leb (p .operation .until) (max (p .now) t)) (λ l. rw (e, l) none) (λ l. rw (e, l) none)
+    settles-by t work.DeepSleep e = by-cases (leb (p .operation .until) (max (p .now) t)) (λ l. rw (e, l) none) (λ l. rw (e, l) none)
+    settles-by t work.SoftReset e = by-cases (leb (p .operation .until) (max (p .now) t)) (λ l. rw (e, l) none) (λ l. rw (e, l) none)
+    settles-by t work.HardwareReset e = by-cases (leb (p .operation .until) (max (p .now) t)) (λ l. rw (e, l) none) (λ l. rw (e, l) none)
+    settles-by t (work.Refresh r) e =
+        by-cases (leb (p .operation .until) (max (p .now) t)) (λ l. rw (e, l) (all r)) (λ l. rw (e, l, cuts-none (p .mode .power)) none)
 
-  -- an assertion that finds a refresh at its end lets it end by itself, else it cuts what runs
-  abbrev Lowers : ℕ → Type 0
-  Lowers t = Moves true t (lowered (p .config) (settled (p .config) t (seen p old new)) .ended)
+    settles : (t : ℕ) → Settles t
+    settles t = settles-by t (p .operation .work) refl
 
-  module _ (t : ℕ) where
-    cuts-refresh : (r : Refresh) (y : Power) → p .operation .work ≡ work.Refresh r → p .mode .power ≡ y
-        → leb (p .operation .until) (max (p .now) t) ≡ false → Lowers t
-    unfolding drivenAt endsRefresh numbersNow settled lowered
-    cuts-refresh r power.Running e k l = rw (e, k, l)
-    cuts-refresh r power.Asleep e k l = rw (e, k, l)
-    cuts-refresh r power.InReset e k l = rw (e, k, l)
+    -- an assertion that finds a refresh at its end lets it end by itself, else it cuts what runs
+    module _ (t : ℕ) where
+      abbrev Lowers : Type 0
+      Lowers = F (lowered (p .config) (settled (p .config) t (seen p old new)) .ended) ≡ G (drivenAt own true t p)
 
-    ends-refresh : (r : Refresh) → p .operation .work ≡ work.Refresh r → leb (p .operation .until) (max (p .now) t) ≡ true → Lowers t
-    unfolding drivenAt endsRefresh numbersNow settled lowered
-    ends-refresh r e l =
-        by-cases (copiesNewToOld (p .config .variant) (p .regs))
-        (λ k. by-cases (inReset (p .mode .power)) (λ y. rw (e, l, k, y)) (λ y. rw (e, l, k, y)))
-        (λ k. by-cases (inReset (p .mode .power)) (λ y. rw (e, l, k, y)) (λ y. rw (e, l, k, y)))
+      cuts-refresh : (r : Refresh) (y : Power) → p .operation .work ≡ work.Refresh r → p .mode .power ≡ y
+          → leb (p .operation .until) (max (p .now) t) ≡ false → Lowers
+      unfolding drivenAt endsRefresh settled lowered
+      cuts-refresh r power.Running e k l = rw (e, k, l) (some r _)
+      cuts-refresh r power.Asleep e k l = rw (e, k, l) (some r _)
+      cuts-refresh r power.InReset e k l = rw (e, k, l) none
 
-    lowers-at : (x : Work) → p .operation .work ≡ x → (y b : Bool) → inReset (p .mode .power) ≡ y → leb (p .operation .until) (max (p .now) t) ≡ b
-        → Lowers t
-    unfolding drivenAt endsRefresh numbersNow settled lowered
-    lowers-at work.Nothing e true b k l = rw (e, k)
-    lowers-at work.Nothing e false b k l = rw (e, k)
-    lowers-at work.PowerOn e true true k l = rw (e, k, l)
-    lowers-at work.PowerOn e true false k l = rw (e, k, l)
-    lowers-at work.PowerOn e false true k l = rw (e, k, l)
-    lowers-at work.PowerOn e false false k l = rw (e, k, l)
-    lowers-at work.PowerOff e true true k l = rw (e, k, l)
-    lowers-at work.PowerOff e true false k l = rw (e, k, l)
-    lowers-at work.PowerOff e false true k l = rw (e, k, l)
-    lowers-at work.PowerOff e false false k l = rw (e, k, l)
-    lowers-at work.DeepSleep e true true k l = rw (e, k, l)
-    lowers-at work.DeepSleep e true false k l = rw (e, k, l)
-    lowers-at work.DeepSleep e false true k l = rw (e, k, l)
-    lowers-at work.DeepSleep e false false k l = rw (e, k, l)
-    lowers-at work.SoftReset e true true k l = rw (e, k, l)
-    lowers-at work.SoftReset e true false k l = rw (e, k, l)
-    lowers-at work.SoftReset e false true k l = rw (e, k, l)
-    lowers-at work.SoftReset e false false k l = rw (e, k, l)
-    lowers-at work.HardwareReset e true true k l = rw (e, k, l)
-    lowers-at work.HardwareReset e true false k l = rw (e, k, l)
-    lowers-at work.HardwareReset e false true k l = rw (e, k, l)
-    lowers-at work.HardwareReset e false false k l = rw (e, k, l)
-    lowers-at (work.Refresh r) e y true k l = ends-refresh r e l
-    lowers-at (work.Refresh r) e y false k l = cuts-refresh r (p .mode .power) e refl l
+      ends-refresh : (r : Refresh) → p .operation .work ≡ work.Refresh r → leb (p .operation .until) (max (p .now) t) ≡ true → Lowers
+      unfolding drivenAt endsRefresh settled lowered
+      ends-refresh r e l =
+          by-cases (copiesNewToOld (p .config .variant) (p .regs))
+          (λ k. by-cases (inReset (p .mode .power)) (λ y. rw (e, l, k, y) (all r)) (λ y. rw (e, l, k, y) (all r)))
+          (λ k. by-cases (inReset (p .mode .power)) (λ y. rw (e, l, k, y) (all r)) (λ y. rw (e, l, k, y) (all r)))
 
-    glass-lowers : Lowers t
-    glass-lowers = lowers-at (p .operation .work) refl (inReset (p .mode .power)) (leb (p .operation .until) (max (p .now) t)) refl refl
+      lowers-at : (x : Work) → p .operation .work ≡ x → (y b : Bool) → inReset (p .mode .power) ≡ y → leb (p .operation .until) (max (p .now) t) ≡ b
+          → Lowers
+      unfolding drivenAt endsRefresh settled lowered
+      lowers-at work.Nothing e true b k l = rw (e, k) none
+      lowers-at work.Nothing e false b k l = rw (e, k) none
+      lowers-at work.PowerOn e true true k l = rw (e, k, l) none
+      lowers-at work.PowerOn e true false k l = rw (e, k, l) none
+      lowers-at work.PowerOn e false true k l = rw (e, k, l) none
+      lowers-at work.PowerOn e false false k l = rw (e, k, l) none
+      lowers-at work.PowerOff e true true k l = rw (e, k, l) none
+      lowers-at work.PowerOff e true false k l = rw (e, k, l) none
+      lowers-at work.PowerOff e false true k l = rw (e, k, l) none
+      lowers-at work.PowerOff e false false k l = rw (e, k, l) none
+      lowers-at work.DeepSleep e true true k l = rw (e, k, l) none
+      lowers-at work.DeepSleep e true false k l = rw (e, k, l) none
+      lowers-at work.DeepSleep e false true k l = rw (e, k, l) none
+      lowers-at work.DeepSleep e false false k l = rw (e, k, l) none
+      lowers-at work.SoftReset e true true k l = rw (e, k, l) none
+      lowers-at work.SoftReset e true false k l = rw (e, k, l) none
+      lowers-at work.SoftReset e false true k l = rw (e, k, l) none
+      lowers-at work.SoftReset e false false k l = rw (e, k, l) none
+      lowers-at work.HardwareReset e true true k l = rw (e, k, l) none
+      lowers-at work.HardwareReset e true false k l = rw (e, k, l) none
+      lowers-at work.HardwareReset e false true k l = rw (e, k, l) none
+      lowers-at work.HardwareReset e false false k l = rw (e, k, l) none
+      lowers-at (work.Refresh r) e y true k l = ends-refresh r e l
+      lowers-at (work.Refresh r) e y false k l = cuts-refresh r (p .mode .power) e refl l
+
+      lowers : Lowers
+      lowers = lowers-at (p .operation .work) refl (inReset (p .mode .power)) (leb (p .operation .until) (max (p .now) t)) refl refl
+
+    pub ended-as : (a : Ask) → F (stepped (p .config) (seen p old new) a .ended) ≡ G (drivenBy own a p)
+    unfolding stepped
+    ended-as (command t c) = settles t
+    ended-as (datum t b) = settles t
+    ended-as (reading t) = settles t
+    ended-as (advance t) = settles t
+    ended-as (reset t true) = lowers t
+    ended-as (reset t false) = settles t
+    ended-as (vcomRule t x) = settles t
+    ended-as taking = none
+    ended-as (askBusy t) = none
+    ended-as askDeadline = none
+    ended-as (askBit older x y) = none
+    ended-as (askRow y) = none
+    ended-as (askPicture top wide) = none
 
 -- what an accepted call does to the states is what the machine says
 pub glass-done : (a : Ask) (w : World)
     → doneTo own a w .lent .states
     ≡ statesAfter (w .chip .config .optics .«full_swing») (w .chip .config .optics .«positive_drives_black»)
     (stepped (w .chip .config) (machineOf w) a .ended) (w .lent .states)
-unfolding stepped lentAfter
-glass-done (command t c) w = glass-settles (w .chip) (w .lent .old) (w .lent .new) (w .lent .states) t
-glass-done (datum t b) w = glass-settles (w .chip) (w .lent .old) (w .lent .new) (w .lent .states) t
-glass-done (reading t) w = glass-settles (w .chip) (w .lent .old) (w .lent .new) (w .lent .states) t
-glass-done (advance t) w = glass-settles (w .chip) (w .lent .old) (w .lent .new) (w .lent .states) t
-glass-done (reset t true) w = glass-lowers (w .chip) (w .lent .old) (w .lent .new) (w .lent .states) t
-glass-done (reset t false) w = glass-settles (w .chip) (w .lent .old) (w .lent .new) (w .lent .states) t
-glass-done (vcomRule t x) w = glass-settles (w .chip) (w .lent .old) (w .lent .new) (w .lent .states) t
-glass-done taking w = refl
-glass-done (askBusy t) w = refl
-glass-done askDeadline w = refl
-glass-done (askBit older x y) w = refl
-glass-done (askRow y) w = refl
-glass-done (askPicture top wide) w = refl
+unfolding lentAfter numbersNow
+glass-done a w =
+    let p = w .chip in
+    sym (ended-as p (w .lent .old) (w .lent .new)
+    (λ e. statesAfter (p .config .optics .«full_swing») (p .config .optics .«positive_drives_black») e (w .lent .states))
+    (λ d. statesBy d p (w .lent .old) (w .lent .new) (w .lent .states))
+    refl (λ r. refl) (λ r n. refl) a)
