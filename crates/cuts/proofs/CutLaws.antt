@@ -267,7 +267,7 @@ module _ (t : ℕ) (r : Refresh) (w : World) where
   -- each pixel walks the frames that the cut counts, of its number's table
   pub cut-states : cutCall t r w .lent .states
       ≡ walked (w .chip .config .optics .«full_swing») (λ k. take (cutAt t (w .chip) .frames) (allFrames (w .chip) k))
-      (w .lent .numbers) (w .lent .states)
+      (w .lent .states)
   unfolding closed cutRefresh finished tell cutAt
   cut-states = closed-states (w .chip .stage .current) (cutRefresh own r (tell ResetDuringRefresh (timed t w)))
 
