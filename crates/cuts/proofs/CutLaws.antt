@@ -1,323 +1,322 @@
--- What `isCut` says of an event is what the controller's own reset call does: it stores kind 15 and publishes a picture marked
--- interrupted, of the frames that `cutAt` counts, exactly if the event is a cut. By the tests of `isCut`, one by one.
-use mathlib.Core.Path.{_≡_, refl, sym, ap, subst, _∙_}
+-- A cut that is found is what the event's call does: it tells kind 15, publishes a picture marked interrupted, of the frames found, and
+-- then resets; where none is found, a call that asserts reset publishes nothing. By the question that both ask (controller: `drivenAt`).
+use mathlib.Core.Path.{_≡_, refl, sym, ap, _∙_}
 use mathlib.Core.Bool.{Bool, true, false, _||_, _&&_, true≢false}
 use Prim.Native.Nat.{ℕ, max}
-use lib.Dec.{eqb, ltb, leb}
+use native.Mathlib.Omega.{arith}
+use lib.Dec.{eqb, leb}
 use lib.ListN.{take}
-use borrow.Author.Tests.{eqb-true, eq-eqb, ne-eqb, ltb-true, leb-true, leb-false, lt-leb, le-ltb, lt-ltb}
+use borrow.Author.Tests.{eqb-true, eq-eqb}
 use Rattle.base.specs.Pick.{pick}
 use Rattle.base.proofs.Cases.{by-cases}
-use Rattle.glass.specs.declared.PanelImage.{PanelImage}
 use Rattle.diagnostic.specs.declared.DiagnosticKind.the-variants.{ResetDuringRefresh}
 use Rattle.controller.specs.declared.Power.{Power}
 use Rattle.controller.specs.declared.Power.the-variants as power
 use Rattle.controller.specs.declared.Work.{Work}
 use Rattle.controller.specs.declared.Work.the-variants as work
-use Rattle.controller.specs.declared.Current.{Current}
-use Rattle.controller.specs.declared.Current.the-variants as current
-use Rattle.controller.specs.declared.notes.Note.{Note}
-use Rattle.controller.specs.declared.notes.Note.the-variants.{Quiet, Told}
 use Rattle.controller.specs.declared.Refresh.{Refresh}
 use Rattle.controller.specs.declared.Uc8253.{Uc8253}
-use Rattle.controller.specs.World.{World, onChip}
+use Rattle.controller.specs.declared.drives.Drive.{Drive}
+use Rattle.controller.specs.declared.drives.Drive.the-variants as drive
+use Rattle.controller.specs.declared.notes.Note.{Note}
+use Rattle.controller.specs.declared.notes.Note.the-variants.{Quiet, Told}
+use Rattle.controller.specs.World.{World, Buffers, buffers, world}
+use Rattle.controller.specs.Setters.{withLog, withNow, withRows}
+use Rattle.controller.specs.Tell.{notes, logNoted, rowNoted, logTold, rowsTold}
+use Rattle.controller.specs.Arrives.{timed, endedBy, ended, arrived}
+use Rattle.controller.specs.Command.{closeNote}
+use Rattle.controller.specs.Refresh.{elapsed, published, allFrames, endedRefresh, cutRefresh}
+use Rattle.controller.specs.Reset.{cutBy, cutNote, cleared, loweredBy, loweredNotes, edgeNotes, resetEdge}
+use Rattle.controller.specs.Planes.{oldArrived}
+use Rattle.controller.specs.Glass.{drivenAt, numbersNow, walked, statesBy, pictureBy}
 use Rattle.controller.specs.TurnedBack.{cuts, refreshRuns, endsRefresh, turnedBack}
-use Rattle.controller.specs.Tell.{tell, told}
-use Rattle.controller.specs.Arrives.{timed, ended, endedBy, arrived}
-use Rattle.controller.specs.Command.{closedBy, closed, closingNote}
-use Rattle.controller.specs.Refresh.{walked, published, allFrames, finished, cutRefresh}
-use Rattle.controller.specs.Reset as reset
-use Rattle.controller.specs.Calls.{called, resetCall}
+use Rattle.controller.specs.Ask.{reset, advance, recordAfter, oldAfter, newAfter, rowsAfter, lentAfter, did}
 use Rattle.controller.specs.Counting.{own}
-use Rattle.controller.proofs.Ends.{ended-image}
+use Rattle.controller.proofs.Keeps.{kept-arrived}
+use Rattle.controller.proofs.TurnedAway.{doneTo, did-yes}
 use Rattle.event.specs.declared.Event.{Event}
 use Rattle.event.specs.Events.{asserts, eventDone, eventDoneBy, eventRefused}
-use Rattle.cuts.specs.Cuts.{isCut, cutAt}
+use Rattle.cuts.specs.declared.finding.Cut.{Cut}
+use Rattle.cuts.specs.declared.finding.Found.the-variants as found
+use Rattle.cuts.specs.Cuts.{cutAt, cutOf}
+use Rattle.cuts.specs.Cuts as found-by
 
--- ---- the tests of a cut, one by one
-first : (a b : Bool) → (a && b) ≡ true → a ≡ true
-first true b e = refl
-first false b e = e
+-- ---- the world after a call that asserts reset
+-- the cut c of the refresh r: kind 15, then what closing tells; the first frames driven; the picture marked interrupted, its end the clock;
+-- registers, command and operation cleared, the planes as they were
+abbrev pub cutCall : Cut → Refresh → World → World
+cutCall c r w =
+    let p = w .chip in
+    let b = w .lent in
+    let told = notes (Told ResetDuringRefresh) (closeNote (p .stage .current)) in
+    let driven = statesBy (drive.First (c .frames)) p (b .old) (b .new) (b .states) in
+    world (withLog (logTold told (p .log)) (cleared (cutRefresh r (withNow (c .at) p))))
+    (buffers (b .old) (b .new) driven (pictureBy (drive.First (c .frames)) p driven (b .picture)) (rowsTold told (c .at) (p .log) (b .rows)))
 
-second : (a b : Bool) → (a && b) ≡ true → b ≡ true
-second true b e = e
-second false b e = absurd (true≢false (sym e))
+pub record CutAt (t : ℕ) (c : Cut) (w v : World) : Type 0 where
+  pub refresh : Refresh
+  pub runs : w .chip .operation .work ≡ work.Refresh refresh
+  pub is : cutAt t (elapsed own (timed t (w .chip))) (w .chip) ≡ c
+  pub call : v ≡ cutCall c refresh w
 
-all-three : (a b c : Bool) → a ≡ true → b ≡ true → c ≡ true → (a && (b && c)) ≡ true
-all-three true true true e f g = refl
-all-three true true false e f g = g
-all-three true false c e f g = f
-all-three false b c e f g = e
+-- no refresh to cut: the line was low already, or the command closes and the registers are cleared
+abbrev pub uncut : World → World
+uncut v =
+    let p = v .chip in
+    let told = closeNote (p .stage .current) in
+    pick (cuts (p .mode .power) true)
+    (world (withLog (logNoted told (p .log)) (cleared p)) (withRows (rowNoted told (p .now) (p .log) (v .lent .rows)) (v .lent))) v
 
--- ---- how the code asks: the call ends a refresh, and would end none if it did not assert reset
-above : (u m : ℕ) → leb u m ≡ true → ltb m u ≡ false
-above u m e = le-ltb m u (leb-true u m e)
+-- ---- the question: what is cut, and what is spared
+each : (a b : Bool) → (a && b) ≡ true → (a ≡ true) × (b ≡ true)
+each true b e = (refl, e)
+each false b e = absurd (true≢false (sym e))
 
-below : (u m : ℕ) → leb u m ≡ false → ltb m u ≡ true
-below u m e = lt-ltb m u (leb-false u m e)
+out : (x : Power) (a : Bool) → cuts x a ≡ true → (a ≡ true) × (cuts x true ≡ true)
+out power.Running a e = (e, refl)
+out power.Asleep a e = (e, refl)
+out power.InReset a e = absurd (true≢false (sym e))
 
 unasserted : (x : Power) → cuts x false ≡ false
 unasserted power.Running = refl
 unasserted power.Asleep = refl
 unasserted power.InReset = refl
 
-over-anyway : (r l c k : Bool) → (l ≡ true → k ≡ false) → (r && (l || false)) ≡ true → (c && (r && k)) ≡ false
-over-anyway true true true k f e = f refl
-over-anyway true true false k f e = refl
-over-anyway true false c k f e = absurd (true≢false (sym e))
-over-anyway false l c k f e = absurd (true≢false (sym e))
+nothing-false : (a : Bool) → (a && false) ≡ false
+nothing-false true = refl
+nothing-false false = refl
 
-by-reset : (r l c k : Bool) → (l ≡ false → k ≡ true) → (r && (l || false)) ≡ false → (r && (l || c)) ≡ (c && (r && k))
-by-reset true true c k f e = absurd (true≢false e)
-by-reset true false true k f e = sym (f refl)
-by-reset true false false k f e = refl
-by-reset false l true k f e = refl
-by-reset false l false k f e = refl
-
-module _ (t : ℕ) (p : Uc8253) where
-  abbrev rest : Bool
-  rest = cuts (p .mode .power) true && (refreshRuns (p .operation .work) && ltb (max (p .now) t) (p .operation .until))
-
-  pub ends-alone : endsRefresh false t p ≡ true → rest ≡ false
-  unfolding endsRefresh
-  ends-alone e =
-      over-anyway (refreshRuns (p .operation .work)) (leb (p .operation .until) (max (p .now) t)) (cuts (p .mode .power) true)
-      (ltb (max (p .now) t) (p .operation .until)) (above (p .operation .until) (max (p .now) t)) (rw (unasserted (p .mode .power)) at e)
-
-  pub ends-by-reset : endsRefresh false t p ≡ false → endsRefresh true t p ≡ rest
-  unfolding endsRefresh
-  ends-by-reset e =
-      by-reset (refreshRuns (p .operation .work)) (leb (p .operation .until) (max (p .now) t)) (cuts (p .mode .power) true)
-      (ltb (max (p .now) t) (p .operation .until)) (below (p .operation .until) (max (p .now) t)) (rw (unasserted (p .mode .power)) at e)
-
-module _ (e : Event) (p : Uc8253) where
-  pub no-reset : (e .kind ≡ 4 → ⊥) → false ≡ isCut e p
-  unfolding isCut asserts
-  no-reset n = rw (ne-eqb (e .kind) 4 n)
-
-  module _ (k : e .kind ≡ 4) where
-    pub released : (e .value ≡ 1 → ⊥) → false ≡ isCut e p
-    unfolding isCut asserts
-    released n = rw (eq-eqb (e .kind) 4 k, ne-eqb (e .value) 1 n)
-
-    module _ (v : e .value ≡ 1) where
-      pub over : endsRefresh false (e .time) p ≡ true → false ≡ isCut e p
-      unfolding isCut asserts
-      over h = rw (eq-eqb (e .kind) 4 k, eq-eqb (e .value) 1 v) (sym (ends-alone (e .time) p h))
-
-      pub ended-by-it : endsRefresh false (e .time) p ≡ false → endsRefresh true (e .time) p ≡ isCut e p
-      unfolding isCut asserts
-      ended-by-it h = rw (eq-eqb (e .kind) 4 k, eq-eqb (e .value) 1 v) (ends-by-reset (e .time) p h)
-
--- ---- the call: a refresh that runs, out of reset, before its end
 record Runs (x : Work) : Type 0 where
   refresh : Refresh
   is : x ≡ work.Refresh refresh
 
-runs : (x : Work) → refreshRuns x ≡ true → Runs x
-runs work.Nothing e = absurd (true≢false (sym e))
-runs work.PowerOn e = absurd (true≢false (sym e))
-runs work.PowerOff e = absurd (true≢false (sym e))
-runs work.DeepSleep e = absurd (true≢false (sym e))
-runs work.SoftReset e = absurd (true≢false (sym e))
-runs work.HardwareReset e = absurd (true≢false (sym e))
-runs (work.Refresh r) e = record { refresh = r; is = refl }
+running : (x : Work) → refreshRuns x ≡ true → Runs x
+running work.Nothing e = absurd (true≢false (sym e))
+running work.PowerOn e = absurd (true≢false (sym e))
+running work.PowerOff e = absurd (true≢false (sym e))
+running work.DeepSleep e = absurd (true≢false (sym e))
+running work.SoftReset e = absurd (true≢false (sym e))
+running work.HardwareReset e = absurd (true≢false (sym e))
+running (work.Refresh r) e = record { refresh = r; is = refl }
 
-lowered : (x : Power) (v : World) → cuts x true ≡ true → reset.loweredBy own x v ≡ onChip reset.cleared (closed (reset.cut own v))
-lowered power.Running v e = refl
-lowered power.Asleep v e = refl
-lowered power.InReset v e = absurd (true≢false (sym e))
+none : (c : Cut) → found.Nothing ≡ found.Cut c → ⊥
+none c e = let z : _≡_ {A = ℕ} 0 1 = cc in omega arith
 
--- kind 15, the picture of the whole frames elapsed, and then the reset
-abbrev pub cutCall : ℕ → Refresh → World → World
-cutCall t r w = onChip reset.cleared (closed (cutRefresh own r (tell ResetDuringRefresh (timed t w))))
-
-pub record CutAt (t : ℕ) (w v : World) : Type 0 where
-  pub refresh : Refresh
-  pub runs : w .chip .operation .work ≡ work.Refresh refresh
-  pub call : v ≡ cutCall t refresh w
-
--- reset asserted with no refresh to cut: the line was low already, or the command closes and the registers are cleared
-abbrev pub uncut : World → World
-uncut v = pick (cuts (v .chip .mode .power) true) (onChip reset.cleared (closed v)) v
-
--- nothing runs that has come to its end
-idle : (x : Work) (u : World) → u .chip .operation .work ≡ x → refreshRuns (endedBy x u .chip .operation .work) ≡ false
-idle work.Nothing u e = ap refreshRuns e
-idle work.PowerOn u e = refl
-idle work.PowerOff u e = refl
-idle work.DeepSleep u e = refl
-idle work.SoftReset u e = refl
-idle work.HardwareReset u e = refl
-idle (work.Refresh r) u e = refl
-
-whole : (x : Work) (v : World) → refreshRuns x ≡ false → reset.cutBy own x v ≡ v
-whole work.Nothing v e = refl
-whole work.PowerOn v e = refl
-whole work.PowerOff v e = refl
-whole work.DeepSleep v e = refl
-whole work.SoftReset v e = refl
-whole work.HardwareReset v e = refl
-whole (work.Refresh r) v e = absurd (true≢false e)
-
-spared : (x : Power) (v : World) → (cuts x true && refreshRuns (v .chip .operation .work)) ≡ false
-    → reset.loweredBy own x v ≡ pick (cuts x true) (onChip reset.cleared (closed v)) v
-unfolding reset.cut
-spared power.Running v e = ap (λ (u : World). onChip reset.cleared (closed u)) (whole (v .chip .operation .work) v e)
-spared power.Asleep v e = ap (λ (u : World). onChip reset.cleared (closed u)) (whole (v .chip .operation .work) v e)
-spared power.InReset v e = refl
-
-no-more : (c r k : Bool) → k ≡ true → (c && (r && k)) ≡ false → (c && r) ≡ false
-no-more true true k f e = absurd (true≢false (sym f ∙ e))
-no-more true false k f e = refl
-no-more false r k f e = refl
-
-never : (c r : Bool) → r ≡ false → (c && r) ≡ false
-never true r e = e
-never false r e = refl
-
-module _ (t : ℕ) (w : World) where
+module _ (t : ℕ) (p : Uc8253) where
   abbrev soon : Bool
-  soon = leb (w .chip .operation .until) (max (w .chip .now) t)
+  soon = leb (p .operation .until) (max (p .now) t)
 
-  arrived-late : soon ≡ false → arrived t w ≡ timed t w
-  unfolding arrived ended
-  arrived-late e = rw e
+  record Cutting (a : Bool) (c : Cut) : Type 0 where
+    asserted : a ≡ true
+    line : cuts (p .mode .power) true ≡ true
+    refresh : Runs (p .operation .work)
+    late : soon ≡ false
+    driven : drivenAt own true t p ≡ drive.First (elapsed own (timed t p))
+    is : cutAt t (elapsed own (timed t p)) p ≡ c
 
-  arrived-soon : soon ≡ true → arrived t w ≡ endedBy (w .chip .operation .work) (timed t w)
-  unfolding arrived ended
-  arrived-soon e = rw e
+  cutting : (a : Bool) (c : Cut) → cutOf (drivenAt own a t p) t p ≡ found.Cut c → Cutting a c
+  unfolding drivenAt endsRefresh
+  cutting a c e =
+      let r = refreshRuns (p .operation .work) in
+      by-cases (r && (soon || cuts (p .mode .power) a))
+      (λ h. by-cases soon
+      (λ s. absurd (none c (rw (h, s) at e)))
+      (λ s.
+      let g = each r (cuts (p .mode .power) a) (rw s at h) in
+      let o = out (p .mode .power) a (g .1) in
+      let same : found.Cut (cutAt t (elapsed own (timed t p)) p) ≡ found.Cut c = rw (h, s) at e in
+      record { asserted = o .0; line = o .1; refresh = running (p .operation .work) (g .0); late = s; driven = rw (s, g .0, o .1); is = cc }))
+      (λ h. absurd (none c (rw h at e)))
 
-  taken : turnedBack true t w ≡ 0 → resetCall own t true w ≡ reset.loweredBy own (arrived t w .chip .mode .power) (arrived t w)
-  unfolding called reset.resetEdge
-  taken z = rw (eq-eqb (turnedBack true t w) 0 z)
+  -- the glass does as at an advance, and nothing is left to cut once the call has arrived
+  record Sparing : Type 0 where
+    driven : drivenAt own true t p ≡ drivenAt own false t p
+    calm : (refreshRuns (arrived t p .operation .work) && cuts (arrived t p .mode .power) true) ≡ false
 
-  -- ---- a cut
-  cut-of : (r : Refresh) → w .chip .operation .work ≡ work.Refresh r → reset.cut own (timed t w) ≡ cutRefresh own r (tell ResetDuringRefresh (timed t w))
-  unfolding reset.cut
-  cut-of r e = ap (λ (x : Work). reset.cutBy own x (timed t w)) e
+  idle : (x : Work) → p .operation .work ≡ x → refreshRuns (endedBy x (timed t p) .operation .work) ≡ false
+  idle work.Nothing e = ap refreshRuns e
+  idle work.PowerOn e = refl
+  idle work.PowerOff e = refl
+  idle work.DeepSleep e = refl
+  idle work.SoftReset e = refl
+  idle work.HardwareReset e = refl
+  idle (work.Refresh r) e = refl
 
-  late : rest t (w .chip) ≡ true → soon ≡ false
-  late e =
-      let c = cuts (w .chip .mode .power) true in
-      let r = refreshRuns (w .chip .operation .work) in
-      let k = ltb (max (w .chip .now) t) (w .chip .operation .until) in
-      lt-leb (w .chip .operation .until) (max (w .chip .now) t)
-      (ltb-true (max (w .chip .now) t) (w .chip .operation .until) (second r k (second c (r && k) e)))
-
-  pub reset-cuts : turnedBack true t w ≡ 0 → rest t (w .chip) ≡ true → CutAt t w (resetCall own t true w)
-  reset-cuts z e =
-      let c = cuts (w .chip .mode .power) true in
-      let r = refreshRuns (w .chip .operation .work) in
-      let k = ltb (max (w .chip .now) t) (w .chip .operation .until) in
-      let x = runs (w .chip .operation .work) (first r k (second c (r && k) e)) in
-      record {
-        refresh = x .refresh;
-        runs = x .is;
-        call =
-            taken z
-            ∙ ap (λ (v : World). reset.loweredBy own (v .chip .mode .power) v) (arrived-late (late e))
-            ∙ lowered (w .chip .mode .power) (timed t w) (first c (r && k) e)
-            ∙ ap (λ (v : World). onChip reset.cleared (closed v)) (cut-of (x .refresh) (x .is));
-      }
-
-  -- ---- no cut
-  nothing-runs : rest t (w .chip) ≡ false
-      → (cuts (arrived t w .chip .mode .power) true && refreshRuns (arrived t w .chip .operation .work)) ≡ false
-  nothing-runs e =
+  sparing : cutOf (drivenAt own true t p) t p ≡ found.Nothing → Sparing
+  unfolding drivenAt endsRefresh arrived ended
+  sparing e =
+      let r = refreshRuns (p .operation .work) in
       by-cases soon
-      (λ s.
-      never (cuts (arrived t w .chip .mode .power) true) (refreshRuns (arrived t w .chip .operation .work))
-      (ap (λ (v : World). refreshRuns (v .chip .operation .work)) (arrived-soon s) ∙ idle (w .chip .operation .work) (timed t w) refl))
-      (λ s.
-      ap (λ (v : World). cuts (v .chip .mode .power) true && refreshRuns (v .chip .operation .work)) (arrived-late s)
-      ∙ no-more (cuts (w .chip .mode .power) true) (refreshRuns (w .chip .operation .work))
-      (ltb (max (w .chip .now) t) (w .chip .operation .until)) (below (w .chip .operation .until) (max (w .chip .now) t) s) e)
+      (λ s. record { driven = rw s; calm = rw (s, idle (p .operation .work) refl) })
+      (λ s. by-cases (r && cuts (p .mode .power) true)
+      (λ h. absurd (none _ (sym (rw (s, h) at e))))
+      (λ h. record { driven = rw (s, unasserted (p .mode .power), nothing-false r, h); calm = rw (s, h) }))
 
-  pub reset-spares : turnedBack true t w ≡ 0 → rest t (w .chip) ≡ false → resetCall own t true w ≡ uncut (arrived t w)
-  reset-spares z e = taken z ∙ spared (arrived t w .chip .mode .power) (arrived t w) (nothing-runs e)
+-- ---- the call that cuts
+lowered : (x : Power) (q : Uc8253) → cuts x true ≡ true → loweredBy x q ≡ cleared (cutBy (q .operation .work) q)
+lowered power.Running q e = refl
+lowered power.Asleep q e = refl
+lowered power.InReset q e = absurd (true≢false (sym e))
+
+lowered-notes : (x : Power) (q : Uc8253) → cuts x true ≡ true
+    → loweredNotes x q ≡ notes (cutNote (q .operation .work)) (closeNote (q .stage .current))
+lowered-notes power.Running q e = refl
+lowered-notes power.Asleep q e = refl
+lowered-notes power.InReset q e = absurd (true≢false (sym e))
+
+module _ (t : ℕ) (w : World) (c : Cut) (a : Bool) (k : Cutting t (w .chip) a c) where
+  abbrev chip : Uc8253
+  chip = w .chip
+
+  abbrev lent : Buffers
+  lent = w .lent
+
+  arrived-late : arrived t chip ≡ timed t chip
+  unfolding arrived ended
+  arrived-late = rw (k .late)
+
+  old-late : oldArrived t chip (lent .old) (lent .new) ≡ lent .old
+  unfolding oldArrived
+  old-late = rw (k .late)
+
+  edge-cuts : resetEdge own true (arrived t chip) ≡ cleared (cutRefresh (k .refresh .refresh) (timed t chip))
+  unfolding resetEdge
+  edge-cuts =
+      ap (resetEdge own true) arrived-late
+      ∙ lowered (chip .mode .power) (timed t chip) (k .line)
+      ∙ ap (λ (x : Work). cleared (cutBy x (timed t chip))) (k .refresh .is)
+
+  edge-tells : edgeNotes true (arrived t chip) ≡ notes (Told ResetDuringRefresh) (closeNote (chip .stage .current))
+  edge-tells =
+      ap (edgeNotes true) arrived-late
+      ∙ lowered-notes (chip .mode .power) (timed t chip) (k .line)
+      ∙ ap (λ (x : Work). notes (cutNote x) (closeNote (chip .stage .current))) (k .refresh .is)
+
+  call-cuts : doneTo own (reset t true) w ≡ cutCall c (k .refresh .refresh) w
+  unfolding recordAfter lentAfter oldAfter newAfter rowsAfter cleared cutRefresh
+  call-cuts =
+      let states = ap (λ (d : Drive). statesBy d chip (lent .old) (lent .new) (lent .states)) (k .driven) in
+      (λ i. world (withLog (logTold (edge-tells i) (edge-cuts i .log)) (edge-cuts i))
+      (buffers (old-late i) (lent .new) (states i) (pictureBy (k .driven i) chip (states i) (lent .picture))
+      (rowsTold (edge-tells i) (max (chip .now) t) (chip .log) (lent .rows))))
+      ∙ ap (λ (x : Cut). cutCall x (k .refresh .refresh) w) (k .is)
+
+-- ---- the call that spares
+whole : (x : Work) (q : Uc8253) → refreshRuns x ≡ false → cutBy x q ≡ q
+whole work.Nothing q e = refl
+whole work.PowerOn q e = refl
+whole work.PowerOff q e = refl
+whole work.DeepSleep q e = refl
+whole work.SoftReset q e = refl
+whole work.HardwareReset q e = refl
+whole (work.Refresh r) q e = absurd (true≢false e)
+
+silently : (x : Work) → refreshRuns x ≡ false → cutNote x ≡ Quiet
+silently work.Nothing e = refl
+silently work.PowerOn e = refl
+silently work.PowerOff e = refl
+silently work.DeepSleep e = refl
+silently work.SoftReset e = refl
+silently work.HardwareReset e = refl
+silently (work.Refresh r) e = absurd (true≢false e)
+
+abbrev lowering : Power → Uc8253 → Buffers → World
+lowering x q b =
+    world (withLog (logTold (loweredNotes x q) (loweredBy x q .log)) (loweredBy x q))
+    (withRows (rowsTold (loweredNotes x q) (q .now) (q .log) (b .rows)) b)
+
+abbrev closing : Uc8253 → Buffers → World
+closing q b =
+    let told = closeNote (q .stage .current) in
+    world (withLog (logNoted told (q .log)) (cleared q)) (withRows (rowNoted told (q .now) (q .log) (b .rows)) b)
+
+at-rest : (a : Bool) → (a && true) ≡ false → a ≡ false
+at-rest true e = e
+at-rest false e = refl
+
+closes : (q : Uc8253) (b : Buffers) → (refreshRuns (q .operation .work) && true) ≡ false → lowering power.Running q b ≡ closing q b
+unfolding cleared
+closes q b e =
+    let n = at-rest (refreshRuns (q .operation .work)) e in
+    let told = ap (λ (x : Note). notes x (closeNote (q .stage .current))) (silently (q .operation .work) n) in
+    let same = ap cleared (whole (q .operation .work) q n) in
+    λ i. world (withLog (logTold (told i) (same i .log)) (same i)) (withRows (rowsTold (told i) (q .now) (q .log) (b .rows)) b)
+
+spares : (x : Power) (q : Uc8253) (b : Buffers) → (refreshRuns (q .operation .work) && cuts x true) ≡ false
+    → lowering x q b ≡ pick (cuts x true) (closing q b) (world q b)
+spares power.Running q b e = closes q b e
+spares power.Asleep q b e = closes q b e
+spares power.InReset q b e = refl
+
+call-spares : (t : ℕ) (w : World) → Sparing t (w .chip) → doneTo own (reset t true) w ≡ uncut (doneTo own (advance t) w)
+unfolding recordAfter lentAfter oldAfter newAfter rowsAfter resetEdge
+call-spares t w k =
+    let p = w .chip in
+    let b = w .lent in
+    let q = arrived t p in
+    let states = ap (λ (d : Drive). statesBy d p (b .old) (b .new) (b .states)) (k .driven) in
+    (λ i. world (withLog (logTold (loweredNotes (q .mode .power) q) (loweredBy (q .mode .power) q .log)) (loweredBy (q .mode .power) q))
+    (buffers (oldArrived t p (b .old) (b .new)) (b .new) (states i) (pictureBy (k .driven i) p (states i) (b .picture))
+    (rowsTold (loweredNotes (q .mode .power) q) (sym (kept-arrived t p .clock) i) (sym (kept-arrived t p .log) i) (b .rows))))
+    ∙ spares (q .mode .power) q (doneTo own (advance t) w .lent) (k .calm)
 
 -- ---- the picture and the states of both
-told-image : (n : Note) (v : World) → told n v .chip .image ≡ v .chip .image
-unfolding tell
-told-image Quiet v = refl
-told-image (Told k) v = refl
-
-told-states : (n : Note) (v : World) → told n v .lent .states ≡ v .lent .states
-unfolding tell
-told-states Quiet v = refl
-told-states (Told k) v = refl
-
-closed-image : (x : Current) (v : World) → closedBy x v .chip .image ≡ v .chip .image
-closed-image current.Idle v = refl
-closed-image current.Ignoring v = refl
-closed-image (current.Active a) v = told-image (closingNote a) v
-
-closed-states : (x : Current) (v : World) → closedBy x v .lent .states ≡ v .lent .states
-closed-states current.Idle v = refl
-closed-states current.Ignoring v = refl
-closed-states (current.Active a) v = told-states (closingNote a) v
-
-module _ (t : ℕ) (r : Refresh) (w : World) where
+module _ (c : Cut) (r : Refresh) (w : World) where
   -- marked interrupted, its end the clock
-  pub cut-image : cutCall t r w .chip .image ≡ published (r .kind) true (cutAt t (w .chip) .at) (w .chip)
-  unfolding reset.cleared closed cutRefresh finished tell cutAt published
-  cut-image = closed-image (w .chip .stage .current) (cutRefresh own r (tell ResetDuringRefresh (timed t w)))
+  pub cut-image : cutCall c r w .chip .image ≡ published (r .kind) true (c .at) (w .chip)
+  unfolding cleared cutRefresh published
+  cut-image = refl
 
   -- each pixel walks the frames that the cut counts, of its number's table
-  pub cut-states : cutCall t r w .lent .states
-      ≡ walked (w .chip .config .optics .«full_swing») (λ k. take (cutAt t (w .chip) .frames) (allFrames (w .chip) k))
-      (w .lent .states)
-  unfolding closed cutRefresh finished tell cutAt
-  cut-states = closed-states (w .chip .stage .current) (cutRefresh own r (tell ResetDuringRefresh (timed t w)))
+  pub cut-states : cutCall c r w .lent .states
+      ≡ walked (w .chip .config .optics .«full_swing») (λ k. take (c .frames) (allFrames (w .chip) k))
+      (numbersNow (w .chip) (w .lent .old) (w .lent .new)) (w .lent .states)
+  cut-states = refl
 
 -- no cut publishes nothing: the picture is the one that the call's time left
 pub spared-image : (v : World) → uncut v .chip .image ≡ v .chip .image
-unfolding reset.cleared closed
-spared-image v =
-    by-cases (cuts (v .chip .mode .power) true) (λ e. rw e (closed-image (v .chip .stage .current) v)) (λ e. rw e)
+unfolding cleared
+spared-image v = by-cases (cuts (v .chip .mode .power) true) (λ e. rw e) (λ e. rw e)
 
 -- and time alone marks none as interrupted
-ended-whole : (x : Work) (v : World) → endedBy x v .chip .image .interrupted ≡ true → endedBy x v .chip .image ≡ v .chip .image
-unfolding published
-ended-whole work.Nothing v e = refl
-ended-whole work.PowerOn v e = refl
-ended-whole work.PowerOff v e = refl
-ended-whole work.DeepSleep v e = refl
-ended-whole work.SoftReset v e = refl
-ended-whole work.HardwareReset v e = refl
-ended-whole (work.Refresh r) v e = absurd (true≢false (sym e ∙ ap (λ (i : PanelImage). i .interrupted) (ended-image r v)))
+ended-whole : (x : Work) (p : Uc8253) → endedBy x p .image .interrupted ≡ true → endedBy x p .image ≡ p .image
+unfolding endedRefresh published
+ended-whole work.Nothing p e = refl
+ended-whole work.PowerOn p e = refl
+ended-whole work.PowerOff p e = refl
+ended-whole work.DeepSleep p e = refl
+ended-whole work.SoftReset p e = refl
+ended-whole work.HardwareReset p e = refl
+ended-whole (work.Refresh r) p e = absurd (true≢false (sym e))
 
-pub time-marks-none : (t : ℕ) (w : World) → arrived t w .chip .image .interrupted ≡ true → arrived t w .chip .image ≡ w .chip .image
+pub time-marks-none : (t : ℕ) (p : Uc8253) → arrived t p .image .interrupted ≡ true → arrived t p .image ≡ p .image
 unfolding arrived ended
-time-marks-none t w =
-    by-cases (leb (w .chip .operation .until) (max (w .chip .now) t))
-    (λ s. rw s (ended-whole (w .chip .operation .work) (timed t w)))
-    (λ s. rw s (λ e. refl))
+time-marks-none t p =
+    by-cases (soon t p) (λ s. rw s (ended-whole (p .operation .work) (timed t p))) (λ s. rw s (λ e. refl))
 
--- ---- the same of an event that its call takes
-is-reset : (e : Event) (w : World) → asserts e ≡ true → eventDone e w ≡ resetCall own (e .time) true w
-unfolding asserts eventDone eventDoneBy
-is-reset e w a =
-    let k : e .kind ≡ 4 = eqb-true (e .kind) 4 (first (eqb (e .kind) 4) (eqb (e .value) 1) a) in
-    let v : e .value ≡ 1 = eqb-true (e .value) 1 (second (eqb (e .kind) 4) (eqb (e .value) 1) a) in
-    rw (k, v)
+-- ---- an event that its call takes
+module _ (e : Event) (w : World) (z : eventRefused e w ≡ 0) (a : asserts e ≡ true) where
+  event-resets : eventDone e w ≡ doneTo own (reset (e .time) true) w
+  unfolding asserts eventDone eventDoneBy eventRefused
+  event-resets =
+      let g = each (eqb (e .kind) 4) (eqb (e .value) 1) a in
+      let k : e .kind ≡ 4 = eqb-true (e .kind) 4 (g .0) in
+      let v : e .value ≡ 1 = eqb-true (e .value) 1 (g .1) in
+      let taken : turnedBack true (e .time) w ≡ 0 = rw (k, v) at z in
+      rw (k, v) (did-yes (reset (e .time) true) w (eq-eqb (turnedBack true (e .time) w) 0 taken))
 
-is-taken : (e : Event) (w : World) → asserts e ≡ true → eventRefused e w ≡ 0 → turnedBack true (e .time) w ≡ 0
-unfolding asserts eventRefused
-is-taken e w a z =
-    let k : e .kind ≡ 4 = eqb-true (e .kind) 4 (first (eqb (e .kind) 4) (eqb (e .value) 1) a) in
-    let v : e .value ≡ 1 = eqb-true (e .value) 1 (second (eqb (e .kind) 4) (eqb (e .value) 1) a) in
-    rw (k, v) at z
+  pub event-spares : found-by.cutBy e (w .chip) ≡ found.Nothing → eventDone e w ≡ uncut (doneTo own (advance (e .time)) w)
+  unfolding found-by.cutBy
+  event-spares n = event-resets ∙ call-spares (e .time) w (sparing (e .time) (w .chip) (rw a at n))
 
-module _ (e : Event) (w : World) (z : eventRefused e w ≡ 0) where
-  pub event-cuts : isCut e (w .chip) ≡ true → CutAt (e .time) w (eventDone e w)
-  unfolding isCut
-  event-cuts c =
-      let a = first (asserts e) (rest (e .time) (w .chip)) c in
-      let b = second (asserts e) (rest (e .time) (w .chip)) c in
-      rw (is-reset e w a) (reset-cuts (e .time) w (is-taken e w a z) b)
-
-  pub event-spares : asserts e ≡ true → isCut e (w .chip) ≡ false → eventDone e w ≡ uncut (arrived (e .time) w)
-  unfolding isCut
-  event-spares a c = is-reset e w a ∙ reset-spares (e .time) w (is-taken e w a z) (rw a at c)
+pub event-cuts : (e : Event) (w : World) (c : Cut) → eventRefused e w ≡ 0 → found-by.cutBy e (w .chip) ≡ found.Cut c
+    → CutAt (e .time) c w (eventDone e w)
+unfolding found-by.cutBy
+event-cuts e w c z f =
+    let k = cutting (e .time) (w .chip) (asserts e) c f in
+    record {
+      refresh = k .refresh .refresh;
+      runs = k .refresh .is;
+      is = k .is;
+      call = event-resets e w z (k .asserted) ∙ call-cuts (e .time) w c (asserts e) k;
+    }
