@@ -47,6 +47,18 @@ kept c t r l = record { config = c; clock = t; rule = r; log = l }
 pub then : {p q r : Uc8253} → Kept p q → Kept q r → Kept p r
 then k l = record { config = l .config ∙ k .config; clock = l .clock ∙ k .clock; rule = l .rule ∙ k .rule; log = l .log ∙ k .log }
 
+-- a command byte, a data byte and a read leave the head of the picture too
+pub record KeptAll (p q : Uc8253) : Type 0 where
+  pub kept-most : Kept p q
+  pub image : q .image ≡ p .image
+
+abbrev same : {p q : Uc8253} → q .config ≡ p .config → q .now ≡ p .now → q .mode .«vcom_by_frame» ≡ p .mode .«vcom_by_frame»
+    → q .log ≡ p .log → q .image ≡ p .image → KeptAll p q
+same c t r l i = record { kept-most = kept c t r l; image = i }
+
+both-then : {p q r : Uc8253} → KeptAll p q → KeptAll q r → KeptAll p r
+both-then k l = record { kept-most = then (k .kept-most) (l .kept-most); image = l .image ∙ k .image }
+
 -- ---- the end of an operation
 kept-ended-by : (x : Work) (p : Uc8253) → Kept p (endedBy x p)
 unfolding endedRefresh
@@ -67,81 +79,90 @@ unfolding arrived
 kept-arrived t p = kept-ended (timed t p)
 
 -- ---- a command byte
-kept-refreshed-by : (n : Note) (p : Uc8253) → Kept p (refreshedBy own n p)
+kept-refreshed-by : (n : Note) (p : Uc8253) → KeptAll p (refreshedBy own n p)
 unfolding refreshStarted
-kept-refreshed-by (Told k) p = kept refl refl refl refl
-kept-refreshed-by Quiet p = kept refl refl refl refl
+kept-refreshed-by (Told k) p = same refl refl refl refl refl
+kept-refreshed-by Quiet p = same refl refl refl refl refl
 
-kept-executed : (c : ℕ) (p : Uc8253) → Kept p (executed own c p)
+kept-executed : (c : ℕ) (p : Uc8253) → KeptAll p (executed own c p)
 unfolding executed refreshed
 kept-executed c p =
-    let same : Kept p p = kept refl refl refl refl in
-    both (Kept p) (eqb c 0x04) (both (Kept p) (p .mode .powered) same (kept refl refl refl refl))
-    (both (Kept p) (eqb c 0x02) (both (Kept p) (p .mode .powered) (kept refl refl refl refl) same)
-    (both (Kept p) (eqb c 0x12) (kept-refreshed-by (refreshNote (getD (p .regs .psr) 0 0) (p .mode .powered)) p)
-    (both (Kept p) (eqb c 0x91) (kept refl refl refl refl)
-    (both (Kept p) (eqb c 0x92) (kept refl refl refl refl)
-    (both (Kept p) (oneOf (0x10 ∷ 0x13 ∷ []) c) (kept refl refl refl refl)
-    (both (Kept p) (eqb c 0x11) (kept refl refl refl refl)
-    same))))))
+    let here : KeptAll p p = same refl refl refl refl refl in
+    both (KeptAll p) (eqb c 0x04) (both (KeptAll p) (p .mode .powered) here (same refl refl refl refl refl))
+    (both (KeptAll p) (eqb c 0x02) (both (KeptAll p) (p .mode .powered) (same refl refl refl refl refl) here)
+    (both (KeptAll p) (eqb c 0x12) (kept-refreshed-by (refreshNote (getD (p .regs .psr) 0 0) (p .mode .powered)) p)
+    (both (KeptAll p) (eqb c 0x91) (same refl refl refl refl refl)
+    (both (KeptAll p) (eqb c 0x92) (same refl refl refl refl refl)
+    (both (KeptAll p) (oneOf (0x10 ∷ 0x13 ∷ []) c) (same refl refl refl refl refl)
+    (both (KeptAll p) (eqb c 0x11) (same refl refl refl refl refl)
+    here))))))
 
-kept-begun : (c : ℕ) (k : Kind) (p : Uc8253) → Kept p (begun c k p)
+kept-begun : (c : ℕ) (k : Kind) (p : Uc8253) → KeptAll p (begun c k p)
 unfolding begun
-kept-begun c k p = kept refl refl refl refl
+kept-begun c k p = same refl refl refl refl refl
 
-kept-sorted-by : (k : Kind) (c : ℕ) (p : Uc8253) → Kept p (sortedBy own k c p)
-kept-sorted-by kind.Unknown c p = kept refl refl refl refl
+kept-sorted-by : (k : Kind) (c : ℕ) (p : Uc8253) → KeptAll p (sortedBy own k c p)
+kept-sorted-by kind.Unknown c p = same refl refl refl refl refl
 kept-sorted-by (kind.Unsupported n) c p = kept-begun c (kind.Unsupported n) p
-kept-sorted-by (kind.Write n) c p = then (kept-begun c (kind.Write n) p) (kept-executed c (begun c (kind.Write n) p))
-kept-sorted-by kind.Read c p = then (kept-begun c kind.Read p) (kept-executed c (begun c kind.Read p))
+kept-sorted-by (kind.Write n) c p = both-then (kept-begun c (kind.Write n) p) (kept-executed c (begun c (kind.Write n) p))
+kept-sorted-by kind.Read c p = both-then (kept-begun c kind.Read p) (kept-executed c (begun c kind.Read p))
 
-kept-passed-by : (n : Note) (c : ℕ) (p : Uc8253) → Kept p (passedBy own n c p)
-kept-passed-by (Told k) c p = kept refl refl refl refl
+kept-passed-by : (n : Note) (c : ℕ) (p : Uc8253) → KeptAll p (passedBy own n c p)
+kept-passed-by (Told k) c p = same refl refl refl refl refl
 kept-passed-by Quiet c p = kept-sorted-by (kindOf c (p .config .variant)) c p
 
-pub kept-command : (c : ℕ) (p : Uc8253) → Kept p (commandByte own c p)
+pub all-command : (c : ℕ) (p : Uc8253) → KeptAll p (commandByte own c p)
 unfolding commandByte
-kept-command c p = kept-passed-by (barredNote (p .mode .power) (p .operation .work) c) c p
+all-command c p = kept-passed-by (barredNote (p .mode .power) (p .operation .work) c) c p
 
 -- ---- a data byte
-kept-pixel : (a : Active) (p : Uc8253) → Kept p (pixelByte a p)
+kept-pixel : (a : Active) (p : Uc8253) → KeptAll p (pixelByte a p)
 unfolding pixelByte pixelChip
-kept-pixel a p = both (Kept p) (pastRow (writtenOf (p .regs)) (a .cursor)) (kept refl refl refl refl) (kept refl refl refl refl)
+kept-pixel a p = both (KeptAll p) (pastRow (writtenOf (p .regs)) (a .cursor)) (same refl refl refl refl refl) (same refl refl refl refl refl)
 
-kept-used-by : (u : Use) (a : Active) (b : ℕ) (p : Uc8253) → Kept p (usedBy own u a b p)
-kept-used-by use-for.Extra a b p = kept refl refl refl refl
-kept-used-by use-for.Quiet a b p = kept refl refl refl refl
-kept-used-by use-for.Soft a b p = kept refl refl refl refl
-kept-used-by use-for.Sleep a b p = kept refl refl refl refl
-kept-used-by use-for.Wrong a b p = kept refl refl refl refl
-kept-used-by use-for.Register a b p = kept refl refl refl refl
+kept-used-by : (u : Use) (a : Active) (b : ℕ) (p : Uc8253) → KeptAll p (usedBy own u a b p)
+kept-used-by use-for.Extra a b p = same refl refl refl refl refl
+kept-used-by use-for.Quiet a b p = same refl refl refl refl refl
+kept-used-by use-for.Soft a b p = same refl refl refl refl refl
+kept-used-by use-for.Sleep a b p = same refl refl refl refl refl
+kept-used-by use-for.Wrong a b p = same refl refl refl refl refl
+kept-used-by use-for.Register a b p = same refl refl refl refl refl
 kept-used-by use-for.Older a b p = kept-pixel (moreOf a) p
 kept-used-by use-for.Newer a b p = kept-pixel (moreOf a) p
 
-kept-given-by : (x : Current) (b : ℕ) (p : Uc8253) → Kept p (givenBy own x b p)
-kept-given-by current.Idle b p = kept refl refl refl refl
-kept-given-by current.Ignoring b p = kept refl refl refl refl
+kept-given-by : (x : Current) (b : ℕ) (p : Uc8253) → KeptAll p (givenBy own x b p)
+kept-given-by current.Idle b p = same refl refl refl refl refl
+kept-given-by current.Ignoring b p = same refl refl refl refl refl
 kept-given-by (current.Active a) b p = kept-used-by (purposeOf a b) a b p
 
-pub kept-data : (b : ℕ) (p : Uc8253) → Kept p (dataByte own b p)
+pub all-data : (b : ℕ) (p : Uc8253) → KeptAll p (dataByte own b p)
 unfolding dataByte
-kept-data b p = kept-given-by (p .stage .current) b p
+all-data b p = kept-given-by (p .stage .current) b p
 
 -- ---- a read
-kept-after-read : (k : Kind) (a : Active) (p : Uc8253) → Kept p (byte.afterRead k a p)
-kept-after-read (kind.Write n) a p = kept refl refl refl refl
-kept-after-read kind.Read a p = kept refl refl refl refl
-kept-after-read (kind.Unsupported n) a p = kept refl refl refl refl
-kept-after-read kind.Unknown a p = kept refl refl refl refl
+kept-after-read : (k : Kind) (a : Active) (p : Uc8253) → KeptAll p (byte.afterRead k a p)
+kept-after-read (kind.Write n) a p = same refl refl refl refl refl
+kept-after-read kind.Read a p = same refl refl refl refl refl
+kept-after-read (kind.Unsupported n) a p = same refl refl refl refl refl
+kept-after-read kind.Unknown a p = same refl refl refl refl refl
 
-kept-reading-by : (x : Current) (p : Uc8253) → Kept p (byte.readingBy x p)
-kept-reading-by current.Idle p = kept refl refl refl refl
-kept-reading-by current.Ignoring p = kept refl refl refl refl
+kept-reading-by : (x : Current) (p : Uc8253) → KeptAll p (byte.readingBy x p)
+kept-reading-by current.Idle p = same refl refl refl refl refl
+kept-reading-by current.Ignoring p = same refl refl refl refl refl
 kept-reading-by (current.Active a) p = kept-after-read (a .kind) a p
 
-pub kept-reading : (p : Uc8253) → Kept p (byte.reading p)
+pub all-reading : (p : Uc8253) → KeptAll p (byte.reading p)
 unfolding byte.reading
-kept-reading p = kept-reading-by (p .stage .current) p
+all-reading p = kept-reading-by (p .stage .current) p
+
+pub kept-command : (c : ℕ) (p : Uc8253) → Kept p (commandByte own c p)
+kept-command c p = all-command c p .kept-most
+
+pub kept-data : (b : ℕ) (p : Uc8253) → Kept p (dataByte own b p)
+kept-data b p = all-data b p .kept-most
+
+pub kept-reading : (p : Uc8253) → Kept p (byte.reading p)
+kept-reading p = all-reading p .kept-most
 
 -- ---- the reset line
 kept-dropped : (x : Work) (p : Uc8253) → Kept p (cleared (cutBy x p))
