@@ -1,7 +1,7 @@
--- A cut that is found is what the event's call does: it tells kind 15, publishes a picture marked interrupted, of the frames found, and
+-- A cut that is found is what the event's call does: it tells kind 15, drives the frames found, publishes a picture marked interrupted, and
 -- then resets; where none is found, a call that asserts reset publishes nothing. By the question that both ask (controller: `drivenAt`).
 use mathlib.Core.Path.{_≡_, refl, sym, ap, _∙_}
-use mathlib.Core.Bool.{Bool, true, false, _||_, _&&_, true≢false}
+use mathlib.Core.Bool.{Bool, true, false, _||_, _&&_, true≢false, and-false}
 use Prim.Native.Nat.{ℕ, max}
 use native.Mathlib.Omega.{arith}
 use lib.Dec.{eqb, leb}
@@ -16,58 +16,48 @@ use Rattle.controller.specs.declared.Work.{Work}
 use Rattle.controller.specs.declared.Work.the-variants as work
 use Rattle.controller.specs.declared.Refresh.{Refresh}
 use Rattle.controller.specs.declared.Uc8253.{Uc8253}
-use Rattle.controller.specs.declared.drives.Drive.{Drive}
 use Rattle.controller.specs.declared.drives.Drive.the-variants as drive
 use Rattle.controller.specs.declared.notes.Note.{Note}
 use Rattle.controller.specs.declared.notes.Note.the-variants.{Quiet, Told}
-use Rattle.controller.specs.World.{World, Buffers, buffers, world}
-use Rattle.controller.specs.Setters.{withLog, withNow, withRows}
-use Rattle.controller.specs.Tell.{notes, logNoted, rowNoted, logTold, rowsTold}
+use Rattle.controller.specs.World.{World}
+use Rattle.controller.specs.Tell.{notes, silent}
 use Rattle.controller.specs.Arrives.{timed, endedBy, ended, arrived}
 use Rattle.controller.specs.Command.{closeNote}
 use Rattle.controller.specs.Refresh.{elapsed, published, allFrames, endedRefresh, cutRefresh}
-use Rattle.controller.specs.Reset.{cutBy, cutNote, cleared, loweredBy, loweredNotes, edgeNotes, resetEdge}
-use Rattle.controller.specs.Planes.{oldArrived}
-use Rattle.controller.specs.Glass.{drivenAt, numbersNow, walked, statesBy, pictureBy}
+use Rattle.controller.specs.Reset.{cutBy, cutNote, cleared, loweredBy, loweredNotes, resetEdge}
+use Rattle.controller.specs.Glass.{drivenAt, numbersNow, walked}
 use Rattle.controller.specs.TurnedBack.{cuts, refreshRuns, endsRefresh, turnedBack}
-use Rattle.controller.specs.Ask.{reset, advance, recordAfter, oldAfter, newAfter, rowsAfter, lentAfter, did}
+use Rattle.controller.specs.Ask.{reset, advance, chipAfter, toldBy, drivenBy, recordAfter, lentAfter}
 use Rattle.controller.specs.Counting.{own}
-use Rattle.controller.proofs.Keeps.{kept-arrived}
 use Rattle.controller.proofs.TurnedAway.{doneTo, did-yes}
 use Rattle.event.specs.declared.Event.{Event}
 use Rattle.event.specs.Events.{asserts, eventDone, eventDoneBy, eventRefused}
 use Rattle.cuts.specs.declared.finding.Cut.{Cut}
 use Rattle.cuts.specs.declared.finding.Found.the-variants as found
 use Rattle.cuts.specs.Cuts.{cutAt, cutOf}
-use Rattle.cuts.specs.Cuts as found-by
+use Rattle.cuts.specs.Cuts as rule
 
--- ---- the world after a call that asserts reset
--- the cut c of the refresh r: kind 15, then what closing tells; the first frames driven; the picture marked interrupted, its end the clock;
--- registers, command and operation cleared, the planes as they were
-abbrev pub cutCall : Cut → Refresh → World → World
-cutCall c r w =
-    let p = w .chip in
-    let b = w .lent in
-    let told = notes (Told ResetDuringRefresh) (closeNote (p .stage .current)) in
-    let driven = statesBy (drive.First (c .frames)) p (b .old) (b .new) (b .states) in
-    world (withLog (logTold told (p .log)) (cleared (cutRefresh r (withNow (c .at) p))))
-    (buffers (b .old) (b .new) driven (pictureBy (drive.First (c .frames)) p driven (b .picture)) (rowsTold told (c .at) (p .log) (b .rows)))
-
+-- the reset call at t, part by part, that makes v of w with the cut c: kind 15, then what closing tells; the frames of the cut; the
+-- picture of the refresh, and then the reset
 pub record CutAt (t : ℕ) (c : Cut) (w v : World) : Type 0 where
   pub refresh : Refresh
   pub runs : w .chip .operation .work ≡ work.Refresh refresh
-  pub is : cutAt t (elapsed own (timed t (w .chip))) (w .chip) ≡ c
-  pub call : v ≡ cutCall c refresh w
+  pub is : c ≡ cutAt t (elapsed own (timed t (w .chip))) (w .chip)
+  pub call : v ≡ doneTo own (reset t true) w
+  pub tells : toldBy (reset t true) (w .chip) ≡ notes (Told ResetDuringRefresh) (closeNote (w .chip .stage .current))
+  pub drives : drivenBy own (reset t true) (w .chip) ≡ drive.First (c .frames)
+  pub leaves : chipAfter own (reset t true) (w .chip) ≡ cleared (cutRefresh refresh (timed t (w .chip)))
 
--- no refresh to cut: the line was low already, or the command closes and the registers are cleared
-abbrev pub uncut : World → World
-uncut v =
-    let p = v .chip in
-    let told = closeNote (p .stage .current) in
-    pick (cuts (p .mode .power) true)
-    (world (withLog (logNoted told (p .log)) (cleared p)) (withRows (rowNoted told (p .now) (p .log) (v .lent .rows)) (v .lent))) v
+-- with no cut: the glass does as at an advance; then the line was low already, or the command closes and the registers are cleared
+pub record Spares (t : ℕ) (w v : World) : Type 0 where
+  pub call : v ≡ doneTo own (reset t true) w
+  pub tells : toldBy (reset t true) (w .chip)
+      ≡ pick (cuts (arrived t (w .chip) .mode .power) true) (notes Quiet (closeNote (arrived t (w .chip) .stage .current))) silent
+  pub drives : drivenBy own (reset t true) (w .chip) ≡ drivenBy own (advance t) (w .chip)
+  pub leaves : chipAfter own (reset t true) (w .chip)
+      ≡ pick (cuts (arrived t (w .chip) .mode .power) true) (cleared (arrived t (w .chip))) (arrived t (w .chip))
 
--- ---- the question: what is cut, and what is spared
+-- ---- the question
 each : (a b : Bool) → (a && b) ≡ true → (a ≡ true) × (b ≡ true)
 each true b e = (refl, e)
 each false b e = absurd (true≢false (sym e))
@@ -81,10 +71,6 @@ unasserted : (x : Power) → cuts x false ≡ false
 unasserted power.Running = refl
 unasserted power.Asleep = refl
 unasserted power.InReset = refl
-
-nothing-false : (a : Bool) → (a && false) ≡ false
-nothing-false true = refl
-nothing-false false = refl
 
 record Runs (x : Work) : Type 0 where
   refresh : Refresh
@@ -106,13 +92,13 @@ module _ (t : ℕ) (p : Uc8253) where
   abbrev soon : Bool
   soon = leb (p .operation .until) (max (p .now) t)
 
+  -- what a cut says: reset is asserted out of reset, a refresh runs, and its end lies above the clock
   record Cutting (a : Bool) (c : Cut) : Type 0 where
     asserted : a ≡ true
     line : cuts (p .mode .power) true ≡ true
     refresh : Runs (p .operation .work)
     late : soon ≡ false
-    driven : drivenAt own true t p ≡ drive.First (elapsed own (timed t p))
-    is : cutAt t (elapsed own (timed t p)) p ≡ c
+    is : c ≡ cutAt t (elapsed own (timed t p)) p
 
   cutting : (a : Bool) (c : Cut) → cutOf (drivenAt own a t p) t p ≡ found.Cut c → Cutting a c
   unfolding drivenAt endsRefresh
@@ -125,12 +111,12 @@ module _ (t : ℕ) (p : Uc8253) where
       let g = each r (cuts (p .mode .power) a) (rw s at h) in
       let o = out (p .mode .power) a (g .1) in
       let same : found.Cut (cutAt t (elapsed own (timed t p)) p) ≡ found.Cut c = rw (h, s) at e in
-      record { asserted = o .0; line = o .1; refresh = running (p .operation .work) (g .0); late = s; driven = rw (s, g .0, o .1); is = cc }))
+      record { asserted = o .0; line = o .1; refresh = running (p .operation .work) (g .0); late = s; is = cc }))
       (λ h. absurd (none c (rw h at e)))
 
-  -- the glass does as at an advance, and nothing is left to cut once the call has arrived
+  -- what none says: the glass does as without the assertion, and no refresh is left to cut
   record Sparing : Type 0 where
-    driven : drivenAt own true t p ≡ drivenAt own false t p
+    drives : drivenAt own true t p ≡ drivenAt own false t p
     calm : (refreshRuns (arrived t p .operation .work) && cuts (arrived t p .mode .power) true) ≡ false
 
   idle : (x : Work) → p .operation .work ≡ x → refreshRuns (endedBy x (timed t p) .operation .work) ≡ false
@@ -147,136 +133,92 @@ module _ (t : ℕ) (p : Uc8253) where
   sparing e =
       let r = refreshRuns (p .operation .work) in
       by-cases soon
-      (λ s. record { driven = rw s; calm = rw (s, idle (p .operation .work) refl) })
+      (λ s. record { drives = rw s; calm = rw (s, idle (p .operation .work) refl) })
       (λ s. by-cases (r && cuts (p .mode .power) true)
       (λ h. absurd (none _ (sym (rw (s, h) at e))))
-      (λ h. record { driven = rw (s, unasserted (p .mode .power), nothing-false r, h); calm = rw (s, h) }))
+      (λ h. record { drives = rw (s, unasserted (p .mode .power), and-false r, h); calm = rw (s, h) }))
 
--- ---- the call that cuts
-lowered : (x : Power) (q : Uc8253) → cuts x true ≡ true → loweredBy x q ≡ cleared (cutBy (q .operation .work) q)
-lowered power.Running q e = refl
-lowered power.Asleep q e = refl
+-- ---- asserting reset, with a refresh that it cuts and without: the record, and what is told
+lowered : (x : Power) (q : Uc8253) → cuts x true ≡ true
+    → (loweredBy x q ≡ cleared (cutBy (q .operation .work) q))
+    × (loweredNotes x q ≡ notes (cutNote (q .operation .work)) (closeNote (q .stage .current)))
+lowered power.Running q e = (refl, refl)
+lowered power.Asleep q e = (refl, refl)
 lowered power.InReset q e = absurd (true≢false (sym e))
 
-lowered-notes : (x : Power) (q : Uc8253) → cuts x true ≡ true
-    → loweredNotes x q ≡ notes (cutNote (q .operation .work)) (closeNote (q .stage .current))
-lowered-notes power.Running q e = refl
-lowered-notes power.Asleep q e = refl
-lowered-notes power.InReset q e = absurd (true≢false (sym e))
+whole : (x : Work) (q : Uc8253) (n : Note) → (refreshRuns x && true) ≡ false
+    → (cleared (cutBy x q) ≡ cleared q) × (notes (cutNote x) n ≡ notes Quiet n)
+whole work.Nothing q n e = (refl, refl)
+whole work.PowerOn q n e = (refl, refl)
+whole work.PowerOff q n e = (refl, refl)
+whole work.DeepSleep q n e = (refl, refl)
+whole work.SoftReset q n e = (refl, refl)
+whole work.HardwareReset q n e = (refl, refl)
+whole (work.Refresh r) q n e = absurd (true≢false e)
 
-module _ (t : ℕ) (w : World) (c : Cut) (a : Bool) (k : Cutting t (w .chip) a c) where
-  abbrev chip : Uc8253
-  chip = w .chip
+spared : (x : Power) (q : Uc8253) → (refreshRuns (q .operation .work) && cuts x true) ≡ false
+    → (loweredBy x q ≡ pick (cuts x true) (cleared q) q)
+    × (loweredNotes x q ≡ pick (cuts x true) (notes Quiet (closeNote (q .stage .current))) silent)
+spared power.Running q e = whole (q .operation .work) q (closeNote (q .stage .current)) e
+spared power.Asleep q e = whole (q .operation .work) q (closeNote (q .stage .current)) e
+spared power.InReset q e = (refl, refl)
 
-  abbrev lent : Buffers
-  lent = w .lent
+-- ---- an event that its call takes
+event-resets : (e : Event) (w : World) → eventRefused e w ≡ 0 → asserts e ≡ true → eventDone e w ≡ doneTo own (reset (e .time) true) w
+unfolding asserts eventDone eventDoneBy eventRefused
+event-resets e w z a =
+    let g = each (eqb (e .kind) 4) (eqb (e .value) 1) a in
+    let k : e .kind ≡ 4 = eqb-true (e .kind) 4 (g .0) in
+    let v : e .value ≡ 1 = eqb-true (e .value) 1 (g .1) in
+    let taken : turnedBack true (e .time) w ≡ 0 = rw (k, v) at z in
+    rw (k, v) (did-yes (reset (e .time) true) w (eq-eqb (turnedBack true (e .time) w) 0 taken))
 
-  arrived-late : arrived t chip ≡ timed t chip
-  unfolding arrived ended
-  arrived-late = rw (k .late)
-
-  old-late : oldArrived t chip (lent .old) (lent .new) ≡ lent .old
-  unfolding oldArrived
-  old-late = rw (k .late)
-
-  edge-cuts : resetEdge own true (arrived t chip) ≡ cleared (cutRefresh (k .refresh .refresh) (timed t chip))
-  unfolding resetEdge
-  edge-cuts =
-      ap (resetEdge own true) arrived-late
-      ∙ lowered (chip .mode .power) (timed t chip) (k .line)
-      ∙ ap (λ (x : Work). cleared (cutBy x (timed t chip))) (k .refresh .is)
-
-  edge-tells : edgeNotes true (arrived t chip) ≡ notes (Told ResetDuringRefresh) (closeNote (chip .stage .current))
-  edge-tells =
-      ap (edgeNotes true) arrived-late
-      ∙ lowered-notes (chip .mode .power) (timed t chip) (k .line)
-      ∙ ap (λ (x : Work). notes (cutNote x) (closeNote (chip .stage .current))) (k .refresh .is)
-
-  call-cuts : doneTo own (reset t true) w ≡ cutCall c (k .refresh .refresh) w
-  unfolding recordAfter lentAfter oldAfter newAfter rowsAfter cleared cutRefresh
-  call-cuts =
-      let states = ap (λ (d : Drive). statesBy d chip (lent .old) (lent .new) (lent .states)) (k .driven) in
-      (λ i. world (withLog (logTold (edge-tells i) (edge-cuts i .log)) (edge-cuts i))
-      (buffers (old-late i) (lent .new) (states i) (pictureBy (k .driven i) chip (states i) (lent .picture))
-      (rowsTold (edge-tells i) (max (chip .now) t) (chip .log) (lent .rows))))
-      ∙ ap (λ (x : Cut). cutCall x (k .refresh .refresh) w) (k .is)
-
--- ---- the call that spares
-whole : (x : Work) (q : Uc8253) → refreshRuns x ≡ false → cutBy x q ≡ q
-whole work.Nothing q e = refl
-whole work.PowerOn q e = refl
-whole work.PowerOff q e = refl
-whole work.DeepSleep q e = refl
-whole work.SoftReset q e = refl
-whole work.HardwareReset q e = refl
-whole (work.Refresh r) q e = absurd (true≢false e)
-
-silently : (x : Work) → refreshRuns x ≡ false → cutNote x ≡ Quiet
-silently work.Nothing e = refl
-silently work.PowerOn e = refl
-silently work.PowerOff e = refl
-silently work.DeepSleep e = refl
-silently work.SoftReset e = refl
-silently work.HardwareReset e = refl
-silently (work.Refresh r) e = absurd (true≢false e)
-
-abbrev lowering : Power → Uc8253 → Buffers → World
-lowering x q b =
-    world (withLog (logTold (loweredNotes x q) (loweredBy x q .log)) (loweredBy x q))
-    (withRows (rowsTold (loweredNotes x q) (q .now) (q .log) (b .rows)) b)
-
-abbrev closing : Uc8253 → Buffers → World
-closing q b =
-    let told = closeNote (q .stage .current) in
-    world (withLog (logNoted told (q .log)) (cleared q)) (withRows (rowNoted told (q .now) (q .log) (b .rows)) b)
-
-at-rest : (a : Bool) → (a && true) ≡ false → a ≡ false
-at-rest true e = e
-at-rest false e = refl
-
-closes : (q : Uc8253) (b : Buffers) → (refreshRuns (q .operation .work) && true) ≡ false → lowering power.Running q b ≡ closing q b
-unfolding cleared
-closes q b e =
-    let n = at-rest (refreshRuns (q .operation .work)) e in
-    let told = ap (λ (x : Note). notes x (closeNote (q .stage .current))) (silently (q .operation .work) n) in
-    let same = ap cleared (whole (q .operation .work) q n) in
-    λ i. world (withLog (logTold (told i) (same i .log)) (same i)) (withRows (rowsTold (told i) (q .now) (q .log) (b .rows)) b)
-
-spares : (x : Power) (q : Uc8253) (b : Buffers) → (refreshRuns (q .operation .work) && cuts x true) ≡ false
-    → lowering x q b ≡ pick (cuts x true) (closing q b) (world q b)
-spares power.Running q b e = closes q b e
-spares power.Asleep q b e = closes q b e
-spares power.InReset q b e = refl
-
-call-spares : (t : ℕ) (w : World) → Sparing t (w .chip) → doneTo own (reset t true) w ≡ uncut (doneTo own (advance t) w)
-unfolding recordAfter lentAfter oldAfter newAfter rowsAfter resetEdge
-call-spares t w k =
+pub event-cuts : (e : Event) (w : World) (c : Cut) → eventRefused e w ≡ 0 → rule.cutBy e (w .chip) ≡ found.Cut c
+    → CutAt (e .time) c w (eventDone e w)
+unfolding rule.cutBy arrived ended resetEdge drivenAt endsRefresh
+event-cuts e w c z f =
     let p = w .chip in
-    let b = w .lent in
-    let q = arrived t p in
-    let states = ap (λ (d : Drive). statesBy d p (b .old) (b .new) (b .states)) (k .driven) in
-    (λ i. world (withLog (logTold (loweredNotes (q .mode .power) q) (loweredBy (q .mode .power) q .log)) (loweredBy (q .mode .power) q))
-    (buffers (oldArrived t p (b .old) (b .new)) (b .new) (states i) (pictureBy (k .driven i) p (states i) (b .picture))
-    (rowsTold (loweredNotes (q .mode .power) q) (sym (kept-arrived t p .clock) i) (sym (kept-arrived t p .log) i) (b .rows))))
-    ∙ spares (q .mode .power) q (doneTo own (advance t) w .lent) (k .calm)
+    let k = cutting (e .time) p (asserts e) c f in
+    let r = k .refresh .is in
+    let low = lowered (p .mode .power) (timed (e .time) p) (k .line) in
+    record {
+      refresh = k .refresh .refresh;
+      runs = r;
+      is = k .is;
+      call = event-resets e w z (k .asserted);
+      tells = rw (k .late) (low .1 ∙ ap (λ (x : Work). notes (cutNote x) (closeNote (p .stage .current))) r);
+      drives = rw (r, k .late, k .line) (ap (λ (x : Cut). drive.First (x .frames)) (sym (k .is)));
+      leaves = rw (k .late) (low .0 ∙ ap (λ (x : Work). cleared (cutBy x (timed (e .time) p))) r);
+    }
+
+pub event-spares : (e : Event) (w : World) → eventRefused e w ≡ 0 → asserts e ≡ true → rule.cutBy e (w .chip) ≡ found.Nothing
+    → Spares (e .time) w (eventDone e w)
+unfolding rule.cutBy resetEdge
+event-spares e w z a n =
+    let q = arrived (e .time) (w .chip) in
+    let k = sparing (e .time) (w .chip) (rw a at n) in
+    let low = spared (q .mode .power) q (k .calm) in
+    record { call = event-resets e w z a; tells = low .1; drives = k .drives; leaves = low .0 }
 
 -- ---- the picture and the states of both
-module _ (c : Cut) (r : Refresh) (w : World) where
+module _ {t : ℕ} {c : Cut} {w v : World} (k : CutAt t c w v) where
   -- marked interrupted, its end the clock
-  pub cut-image : cutCall c r w .chip .image ≡ published (r .kind) true (c .at) (w .chip)
-  unfolding cleared cutRefresh published
-  cut-image = refl
+  pub cut-image : v .chip .image ≡ published (k .refresh .kind) true (c .at) (w .chip)
+  unfolding recordAfter cleared cutRefresh published
+  cut-image = rw (k .call, k .leaves, k .is)
 
   -- each pixel walks the frames that the cut counts, of its number's table
-  pub cut-states : cutCall c r w .lent .states
+  pub cut-states : v .lent .states
       ≡ walked (w .chip .config .optics .«full_swing») (λ k. take (c .frames) (allFrames (w .chip) k))
       (numbersNow (w .chip) (w .lent .old) (w .lent .new)) (w .lent .states)
-  cut-states = refl
+  unfolding lentAfter
+  cut-states = rw (k .call, k .drives)
 
 -- no cut publishes nothing: the picture is the one that the call's time left
-pub spared-image : (v : World) → uncut v .chip .image ≡ v .chip .image
-unfolding cleared
-spared-image v = by-cases (cuts (v .chip .mode .power) true) (λ e. rw e) (λ e. rw e)
+pub spared-image : {t : ℕ} {w v : World} → Spares t w v → v .chip .image ≡ arrived t (w .chip) .image
+unfolding recordAfter cleared
+spared-image {t = t} {w = w} k =
+    rw (k .call, k .leaves) (by-cases (cuts (arrived t (w .chip) .mode .power) true) (λ e. rw e) (λ e. rw e))
 
 -- and time alone marks none as interrupted
 ended-whole : (x : Work) (p : Uc8253) → endedBy x p .image .interrupted ≡ true → endedBy x p .image ≡ p .image
@@ -291,32 +233,4 @@ ended-whole (work.Refresh r) p e = absurd (true≢false (sym e))
 
 pub time-marks-none : (t : ℕ) (p : Uc8253) → arrived t p .image .interrupted ≡ true → arrived t p .image ≡ p .image
 unfolding arrived ended
-time-marks-none t p =
-    by-cases (soon t p) (λ s. rw s (ended-whole (p .operation .work) (timed t p))) (λ s. rw s (λ e. refl))
-
--- ---- an event that its call takes
-module _ (e : Event) (w : World) (z : eventRefused e w ≡ 0) (a : asserts e ≡ true) where
-  event-resets : eventDone e w ≡ doneTo own (reset (e .time) true) w
-  unfolding asserts eventDone eventDoneBy eventRefused
-  event-resets =
-      let g = each (eqb (e .kind) 4) (eqb (e .value) 1) a in
-      let k : e .kind ≡ 4 = eqb-true (e .kind) 4 (g .0) in
-      let v : e .value ≡ 1 = eqb-true (e .value) 1 (g .1) in
-      let taken : turnedBack true (e .time) w ≡ 0 = rw (k, v) at z in
-      rw (k, v) (did-yes (reset (e .time) true) w (eq-eqb (turnedBack true (e .time) w) 0 taken))
-
-  pub event-spares : found-by.cutBy e (w .chip) ≡ found.Nothing → eventDone e w ≡ uncut (doneTo own (advance (e .time)) w)
-  unfolding found-by.cutBy
-  event-spares n = event-resets ∙ call-spares (e .time) w (sparing (e .time) (w .chip) (rw a at n))
-
-pub event-cuts : (e : Event) (w : World) (c : Cut) → eventRefused e w ≡ 0 → found-by.cutBy e (w .chip) ≡ found.Cut c
-    → CutAt (e .time) c w (eventDone e w)
-unfolding found-by.cutBy
-event-cuts e w c z f =
-    let k = cutting (e .time) (w .chip) (asserts e) c f in
-    record {
-      refresh = k .refresh .refresh;
-      runs = k .refresh .is;
-      is = k .is;
-      call = event-resets e w z (k .asserted) ∙ call-cuts (e .time) w c (asserts e) k;
-    }
+time-marks-none t p = by-cases (soon t p) (λ s. rw s (ended-whole (p .operation .work) (timed t p))) (λ s. rw s (λ e. refl))
