@@ -1,9 +1,9 @@
 -- A refresh's start and its end leave a sound record sound: its period is not 0, its levels are at most 15,000; the states stay in
 -- 0 .. full swing. Each pixel's number is a table's, or 255.
 use mathlib.Core.Path.{_≡_, refl, sym, subst, _∙_}
-use mathlib.Core.Bool.{Bool, true, false, _&&_}
-use mathlib.Core.List.{List}
-use Prim.Native.Nat.{ℕ, _+_, _*_, _/_, _%_, _≤_, _<_}
+use mathlib.Core.Bool.{Bool, true, false, _&&_, false≢true}
+use mathlib.Core.List.{List, [], _∷_, _++_}
+use Prim.Native.Nat.{ℕ, zero, suc, _+_, _*_, _/_, _%_, _≤_, _<_}
 use native.Mathlib.Nat.{mod-lt, div-add-mod', div-lt-iff-lt-mul, mul-comm}
 use native.Mathlib.Omega.{arith}
 use native.Mathlib.Decide.{decLe}
@@ -12,22 +12,25 @@ use lib.IntN.{ℤ, pos}
 use lib.ListN.{length, getD, take}
 use borrow.Author.Tests.{ne-eqb, le-ltb}
 use Rattle.base.specs.Integer.{up}
-use Rattle.base.proofs.Cases.{both}
+use Rattle.base.specs.InTurn.{inTurn}
+use Rattle.base.specs.Listed.{listed}
+use Rattle.base.proofs.Cases.{by-cases, both}
 use Rattle.config.proofs.RefusalLaws.{accepted}
 use Rattle.registers.specs.Area.{inside}
 use Rattle.registers.specs.Written.{writtenOf}
 use Rattle.registers.proofs.RangeLaws.{written-in-range}
 use Rattle.ram.specs.Plane.{bitAt}
 use Rattle.numbers.specs.declared.Mapping.{Mapping}
-use Rattle.numbers.specs.Number.{mappingOf, numberOf, transitionOf, shownAt}
+use Rattle.numbers.specs.Number.{mappingOf, numberOf, transitionOf, shownAt, panelNumbers}
 use Rattle.numbers.proofs.PanelLaws.{panel-length, panel-at}
 use Rattle.waveform.specs.Levels.{levelsOf}
 use Rattle.glass.specs.Walk.{walk}
 use Rattle.glass.proofs.WalkLaws.{walk-within}
 use Rattle.pixels.specs.Drive.{framesFor}
+use Rattle.pixels.specs.Lists.{every}
 use Rattle.pixels.specs.States.{everyState, StateInRange, isNumber, everyNumber}
 use Rattle.pixels.proofs.ListLaws.{beside-length, beside-at, beside-past}
-use Rattle.pixels.proofs.StateLaws.{states-in-range, in-range-states, table-number, undriven-number, known-numbers}
+use Rattle.pixels.proofs.StateLaws.{states-in-range, in-range-states, table-number, undriven-number}
 use Rattle.pixels.proofs.DrawLaws.{drawn-length}
 use Rattle.controller.specs.declared.Uc8253.{Uc8253}
 use Rattle.controller.specs.declared.drives.Drive.{Drive}
@@ -111,6 +114,21 @@ number-known q old new x y =
     (table-known (eqb (bitAt old c r) (q .white)) (eqb (bitAt new c r) (q .white)))
     (record { ok = undriven-number })
 
+-- lists of which each entry passes a test
+module _ {A : Type 0} (t : A → Bool) where
+  every-on : (l m : List A) → every t l ≡ true → every t m ≡ true → every t (l ++ m) ≡ true
+  every-on [] m e f = f
+  every-on (x ∷ l) m e f =
+      by-cases (t x) (λ y. rw y (every-on l m (rw y at e) f)) (λ n. absurd (false≢true (rw n at e)))
+
+  every-listed : (n : ℕ) (f : ℕ → A) → ((k : ℕ) → t (f k) ≡ true) → every t (listed n f) ≡ true
+  every-listed zero f h = refl
+  every-listed (suc n) f h = every-on (listed n f) (f n ∷ []) (every-listed n f h) (rw (h n))
+
+  every-in-turn : (n : ℕ) (f : ℕ → List A) → ((k : ℕ) → every t (f k) ≡ true) → every t (inTurn n f) ≡ true
+  every-in-turn zero f h = refl
+  every-in-turn (suc n) f h = every-on (inTurn n f) (f n) (every-in-turn n f h) (h n)
+
 -- the number of each pixel, row by row
 module _ (p : Uc8253) (old new : List ℕ) where
   pub numbers-length : length (numbersNow p old new) ≡ p .config .panel .sources * p .config .panel .gates
@@ -129,13 +147,11 @@ module _ (p : Uc8253) (old new : List ℕ) where
       subst (λ (k : ℕ). getD (numbersNow p old new) k d ≡ numberOf (mappingNow p) old new (i % n) (i / n)) (div-add-mod' i n)
       (panel-at (mappingNow p) old new (i % n) (i / n) d (mod-lt i some) row)
 
-  pub numbers-known : SoundChip p → everyNumber (numbersNow p old new) ≡ true
-  numbers-known s =
-      known-numbers (numbersNow p old new)
-      (λ i h.
-      let n = p .config .panel .sources in
-      subst (λ (k : ℕ). isNumber k ≡ true) (sym (number-at s 255 i (subst (λ (k : ℕ). i < k) numbers-length h)))
-      (number-known (mappingNow p) old new (i % n) (i / n) .ok))
+  pub numbers-known : everyNumber (numbersNow p old new) ≡ true
+  unfolding numbersNow panelNumbers
+  numbers-known =
+      every-in-turn isNumber (mappingNow p .rows .count) _
+      (λ y. every-listed isNumber (mappingNow p .columns .count) _ (λ x. number-known (mappingNow p) old new x y .ok))
 
 -- ---- a refresh's start
 -- the levels of 01 and the period of 30

@@ -8,3 +8,6 @@ pub mod Wide
 pub mod Quiet
 pub mod OneGigahertz
 pub mod VcomRule
+pub mod Meanwhile
+pub mod OneFault
+pub mod SoftReset

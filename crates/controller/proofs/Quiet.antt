@@ -50,6 +50,8 @@ use Rattle.controller.specs.Reading as byte
 use Rattle.controller.specs.Reading.{readMore, afterRead, readingBy}
 use Rattle.controller.specs.Reset.{cleared, loweredBy, raisedBy, resetEdge}
 use Rattle.controller.specs.Calls.{firstChip}
+use Rattle.controller.specs.Ask.{Ask, command, datum, reading, advance, reset, vcomRule, taking, askBusy, askDeadline, askBit, askRow, askPicture}
+use Rattle.controller.specs.Ask.{recordAfter}
 
 -- what stays of the record while an operation runs; the planes stay too (`plane-quiet`)
 pub record Stays : Type 0 where
@@ -374,6 +376,15 @@ pub plane-quiet : (mine : Use → Bool) → mine use-for.Quiet ≡ false → min
 unfolding planeByte
 plane-quiet mine q x b p l g r = deaf-taken mine q x b (writtenOf (p .regs)) l (p .stage .current) (g .runs r)
 
+-- where a byte is taken, nothing runs
+pub taken-free : (n : Params) (a : Active) (p : Uc8253) → GuardedIn p → p .stage .current ≡ current.Active a → a .kind ≡ kind.Write n
+    → takesByte (a .kind) (a .received) ≡ true → busy (p .operation .work) ≡ false
+taken-free n a p g e k t =
+    by-cases (busy (p .operation .work))
+    (λ r. absurd (true≢false (sym t ∙ ap (λ (x : Kind). takesByte x (a .received)) k
+    ∙ full-takes n (a .received) (ap (λ (x : Kind). spent x (a .received)) (sym k) ∙ ap deaf (sym e) ∙ g .runs r))))
+    (λ r. r)
+
 -- ---- a read
 spared-after-read : (k : Kind) (a : Active) (p : Uc8253) → GuardedIn p → Under (current.Active a) p → Spared p (afterRead k a p)
 spared-after-read (kind.Write n) a p g h = spared-whole p g
@@ -412,6 +423,23 @@ spared-raised-by power.InReset p e g =
 pub spared-released : (p : Uc8253) → GuardedIn p → Spared p (resetEdge own false p)
 unfolding resetEdge
 spared-released p g = spared-raised-by (p .mode .power) p refl g
+
+-- ---- every call keeps the invariant
+pub guarded-after : (a : Ask) (p : Uc8253) → GuardedIn p → GuardedIn (recordAfter own a p)
+unfolding recordAfter
+guarded-after (command t c) p g = spared-command c (arrived t p) (guarded-arrived t p g) .guarded
+guarded-after (datum t b) p g = spared-data b (arrived t p) (guarded-arrived t p g) .guarded
+guarded-after (reading t) p g = spared-reading (arrived t p) (guarded-arrived t p g) .guarded
+guarded-after (advance t) p g = guarded-arrived t p g
+guarded-after (reset t true) p g = guarded-asserted (arrived t p) (guarded-arrived t p g)
+guarded-after (reset t false) p g = spared-released (arrived t p) (guarded-arrived t p g) .guarded
+guarded-after (vcomRule t x) p g = guarded-arrived t p g
+guarded-after taking p g = g
+guarded-after (askBusy t) p g = g
+guarded-after askDeadline p g = g
+guarded-after (askBit older x y) p g = g
+guarded-after (askRow y) p g = g
+guarded-after (askPicture top wide) p g = g
 
 -- ---- making
 pub guarded-made : (c : Uc8253Config) → GuardedIn (firstChip c)

@@ -91,7 +91,7 @@ sound-arrived t p s = sound-ended (timed t p) (sound-now (max (p .now) t) p s)
 sound-ignoring : (p : Uc8253) → SoundChip p → SoundChip (ignoring p)
 sound-ignoring p s = sound-current current.Ignoring p refl s
 
-sound-begun : (c : ℕ) (k : Kind) (p : Uc8253) → SoundChip p → SoundChip (begun c k p)
+pub sound-begun : (c : ℕ) (k : Kind) (p : Uc8253) → SoundChip p → SoundChip (begun c k p)
 unfolding begun
 sound-begun c k p s =
     let r = written-in-range (p .regs) (s .regs) in
