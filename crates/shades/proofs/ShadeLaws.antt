@@ -64,7 +64,7 @@ entries (part l) = []
 entries (wide l) = l
 
 abbrev pub none : Buffers
-none = buffers [] [] [] [] [] []
+none = buffers [] [] [] [] []
 
 pub shades-from : (f : Form) (top : ℕ) (p : Uc8253) (states : List ℤ) {first last : List ℕ} {n : ℕ} {c : Came}
     → first ≡ replicate (room p) 0 → c ≡ cameBy n

@@ -15,13 +15,13 @@ use Rattle.events.proofs.run.Statement.{statement}
 use Rattle.events.proofs.run.Tie as tie
 
 abbrev Inv-loop : tie.InvT-loop
-Inv-loop events answers₀ old₀ new₀ states₀ numbers₀ picture₀ rows₀ count chip₀ refused₀ i₀ answers old new states numbers picture rows chip refused i =
-    let w = world chip₀ (buffers old₀ new₀ states₀ numbers₀ picture₀ rows₀) in
-    let v = world chip (buffers old new states numbers picture rows) in
+Inv-loop events answers₀ old₀ new₀ states₀ picture₀ rows₀ count chip₀ refused₀ i₀ answers old new states picture rows chip refused i =
+    let w = world chip₀ (buffers old₀ new₀ states₀ picture₀ rows₀) in
+    let v = world chip (buffers old new states picture rows) in
     Going events i w v answers₀ answers (refusalNumber refused) × SameLengths (w .lent) (v .lent) × (i ≤ count)
 
 abbrev μ-loop : tie.MeasureT-loop
-μ-loop events answers₀ old₀ new₀ states₀ numbers₀ picture₀ rows₀ count chip₀ refused₀ i₀ answers old new states numbers picture rows chip refused i =
+μ-loop events answers₀ old₀ new₀ states₀ picture₀ rows₀ count chip₀ refused₀ i₀ answers old new states picture rows chip refused i =
     count - i
 
 loop-holds : tie.Need-loop-holds Inv-loop μ-loop
@@ -61,7 +61,7 @@ same-length-7 : tie.Need-same-length-7 Inv-loop μ-loop
 same-length-7 c = c .before .loop .inv .1 .rows-long
 
 returns : tie.Need-returns Inv-loop μ-loop
-returns c = let l = c .before .loop in let a = c .before .before .before .before .before .before .before .before .before .args in let w = world (a .p) (buffers (a .old .now) (a .new .now) (a .states .now) (a .numbers .now) (a .picture .now) (a .rows .now)) in let e : l .i ≡ eventsIn (a .events .now) = omega (arith, l .inv .2, c .loop-test .left) in ((l .inv .0 .is ∙ ap (λ (n : ℕ). ranTo (a .events .now) n w) e, l .inv .0 .turned ∙ ap (λ (n : ℕ). refusedIn (a .events .now) n w) e), l .inv .0 .gave ∙ ap (λ (n : ℕ). answersTo (a .events .now) n w (a .answers .now)) e)
+returns c = let l = c .before .loop in let a = c .before .before .before .before .before .before .before .before .before .args in let w = world (a .p) (buffers (a .old .now) (a .new .now) (a .states .now) (a .picture .now) (a .rows .now)) in let e : l .i ≡ eventsIn (a .events .now) = omega (arith, l .inv .2, c .loop-test .left) in ((l .inv .0 .is ∙ ap (λ (n : ℕ). ranTo (a .events .now) n w) e, l .inv .0 .turned ∙ ap (λ (n : ℕ). refusedIn (a .events .now) n w) e), l .inv .0 .gave ∙ ap (λ (n : ℕ). answersTo (a .events .now) n w (a .answers .now)) e)
 
 pub run-spec : {M : Type 1} → statement M
 run-spec =

@@ -11,7 +11,7 @@ tone-requires c κs =
     let made = c .before .before .before .before .before .before .before .before .before .before .before .before .before .before .before in
     let start = made .before .before .before .before .before .before .before .before .before .before .before .before .before .before .before in
     let a = start .args in
-    let b : Buffers = buffers (a .old .now) (a .new .now) (a .states .now) (a .numbers .now) (a .picture .now) (a .rows .now) in
+    let b : Buffers = buffers (a .old .now) (a .new .now) (a .states .now) (a .picture .now) (a .rows .now) in
     shaded (a .form) (a .top) (a .file .now) (a .sizes) b (start .pre .1) _ _ (made .play .ensures .0 .0)
 
 returns : tie.Need-returns

@@ -24,7 +24,7 @@ show-in-requires c κs =
     let taken = counted .before .before in
     let start = taken .before .before .before .before .before .before .before in
     let a = start .args in
-    let b : Buffers = buffers (a .old .now) (a .new .now) (a .states .now) (a .numbers .now) (a .picture .now) (a .rows .now) in
+    let b : Buffers = buffers (a .old .now) (a .new .now) (a .states .now) (a .picture .now) (a .rows .now) in
     let p = size-read (a .file .now) _ _ (taken .read .ensures .config-is) (counted .pixels .ensures) in (
       taken .read .ensures,
       (fits-cut (a .file .now) b _ _ _ _ p (first .cut .ensures .0) (second .cut2 .ensures .0) (third .cut3 .ensures .0), refl),
@@ -39,7 +39,7 @@ returns c =
     let taken = counted .before .before in
     let start = taken .before .before .before .before .before .before .before in
     let a = start .args in
-    let b : Buffers = buffers (a .old .now) (a .new .now) (a .states .now) (a .numbers .now) (a .picture .now) (a .rows .now) in
+    let b : Buffers = buffers (a .old .now) (a .new .now) (a .states .now) (a .picture .now) (a .rows .now) in
     let p = size-read (a .file .now) _ _ (taken .read .ensures .config-is) (counted .pixels .ensures) in
     left-by (a .file .now) b _ _ _ _ p (first .cut .ensures .0) (second .cut2 .ensures .0) (third .cut3 .ensures .0) (a .form) _
     (c .before .before .before .before .before .before .before .before .before .before .before .before .show-in .ensures)

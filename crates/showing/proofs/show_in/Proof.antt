@@ -13,7 +13,7 @@ write-requires c κs =
     let start = made .before .before .before .before .before .before .before .before .before .before .before .before .before .before .before in
     let a = start .args in
     let s = start .pre in
-    let b : Buffers = buffers (a .old .now) (a .new .now) (a .states .now) (a .numbers .now) (a .picture .now) (a .rows .now) in
+    let b : Buffers = buffers (a .old .now) (a .new .now) (a .states .now) (a .picture .now) (a .rows .now) in
     let e = made .play .ensures in (
       s .0 .end-is,
       written (a .form) (a .file .now) (a .sizes) b (a .answers .now) (s .1 .0) (s .1 .1) _ _ _ _

@@ -74,7 +74,7 @@ returns c =
     let start = at-play .before .before .before .before .before .before .before .before .before .before .before .before .before .before
     .before .before .before .before .before .before .before .before .before in
     let a = start .args in
-    let b : Buffers = buffers (a .old .now) (a .new .now) (a .states .now) (a .numbers .now) (a .picture .now) (a .rows .now) in
+    let b : Buffers = buffers (a .old .now) (a .new .now) (a .states .now) (a .picture .now) (a .rows .now) in
     dump-ran (a .config .now) (start .pre) (at-play .play .result) _ _ b _ (at-play .play .ensures)
 
 pub with-dump-spec : {M : Type 1} → statement M

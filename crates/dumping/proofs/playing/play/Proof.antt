@@ -26,7 +26,7 @@ returns c =
     let at-config-of = at-pixels .before in
     let start = at-config-of .before .before .before .before .before .before .before .before .before .before .before in
     let a = start .args in
-    let b : Buffers = buffers (a .old .now) (a .new .now) (a .states .now) (a .numbers .now) (a .picture .now) (a .rows .now) in
+    let b : Buffers = buffers (a .old .now) (a .new .now) (a .states .now) (a .picture .now) (a .rows .now) in
     let p = size-is (a .config .now) _ _ (at-config-of .config-of .ensures) (at-pixels .pixels .ensures) in
     let long = at-play-in .play-in .kept .1 .1 .1 .1 .1 .1 .1 .1 in
     fitted-dumps (a .config .now) b _ _ _ _ p (at-cut .cut .ensures .0) (at-cut2 .cut2 .ensures .0) (at-cut3 .cut3 .ensures .0)

@@ -12,14 +12,14 @@ use Rattle.dumping.proofs.reading.play_chunk.Statement.{statement}
 use Rattle.dumping.proofs.reading.play_chunk.Tie as tie
 
 abbrev Inv-loop : tie.InvT-loop
-Inv-loop bytes text₀ kept₀ word₀ old₀ new₀ states₀ numbers₀ picture₀ rows₀ q₀ from₀ text kept word old new states numbers picture rows q from =
-    Along bytes (q₀ .reader) q from kept₀ word₀ kept word (world (q₀ .chip) (buffers old₀ new₀ states₀ numbers₀ picture₀ rows₀))
-    (world (q .chip) (buffers old new states numbers picture rows)) × (length text ≡ length text₀) × (length kept ≡ length kept₀) ×
+Inv-loop bytes text₀ kept₀ word₀ old₀ new₀ states₀ picture₀ rows₀ q₀ from₀ text kept word old new states picture rows q from =
+    Along bytes (q₀ .reader) q from kept₀ word₀ kept word (world (q₀ .chip) (buffers old₀ new₀ states₀ picture₀ rows₀))
+    (world (q .chip) (buffers old new states picture rows)) × (length text ≡ length text₀) × (length kept ≡ length kept₀) ×
     (length word ≡ length word₀) × (length old ≡ length old₀) × (length new ≡ length new₀) × (length states ≡ length states₀) ×
-    (length numbers ≡ length numbers₀) × (length picture ≡ length picture₀) × (length rows ≡ length rows₀)
+    (length picture ≡ length picture₀) × (length rows ≡ length rows₀)
 
 abbrev μ-loop : tie.MeasureT-loop
-μ-loop bytes text₀ kept₀ word₀ old₀ new₀ states₀ numbers₀ picture₀ rows₀ q₀ from₀ text kept word old new states numbers picture rows q from =
+μ-loop bytes text₀ kept₀ word₀ old₀ new₀ states₀ picture₀ rows₀ q₀ from₀ text kept word old new states picture rows q from =
     length bytes - from
 
 loop-holds : tie.Need-loop-holds Inv-loop μ-loop

@@ -13,15 +13,15 @@ use Rattle.dumping.proofs.reading.read_chunks.Statement.{statement}
 use Rattle.dumping.proofs.reading.read_chunks.Tie as tie
 
 abbrev Inv-loop : tie.InvT-loop
-Inv-loop fd chunk₀ text₀ kept₀ word₀ old₀ new₀ states₀ numbers₀ picture₀ rows₀ g₀ turns₀ chunk text kept word old new states numbers picture rows g turns =
-    Stood g kept word (world (g₀ .chip) (buffers old₀ new₀ states₀ numbers₀ picture₀ rows₀))
-    (world (g .chip) (buffers old new states numbers picture rows)) × (isOn (g .course) ≡ true) × (length chunk ≡ length chunk₀) ×
+Inv-loop fd chunk₀ text₀ kept₀ word₀ old₀ new₀ states₀ picture₀ rows₀ g₀ turns₀ chunk text kept word old new states picture rows g turns =
+    Stood g kept word (world (g₀ .chip) (buffers old₀ new₀ states₀ picture₀ rows₀))
+    (world (g .chip) (buffers old new states picture rows)) × (isOn (g .course) ≡ true) × (length chunk ≡ length chunk₀) ×
     (length text ≡ length text₀) × (length kept ≡ length kept₀) × (length word ≡ length word₀) × (length old ≡ length old₀) ×
-    (length new ≡ length new₀) × (length states ≡ length states₀) × (length numbers ≡ length numbers₀) × (length picture ≡ length picture₀)
+    (length new ≡ length new₀) × (length states ≡ length states₀) × (length picture ≡ length picture₀)
     × (length rows ≡ length rows₀)
 
 abbrev μ-loop : tie.MeasureT-loop
-μ-loop fd chunk₀ text₀ kept₀ word₀ old₀ new₀ states₀ numbers₀ picture₀ rows₀ g₀ turns₀ chunk text kept word old new states numbers picture rows g turns =
+μ-loop fd chunk₀ text₀ kept₀ word₀ old₀ new₀ states₀ picture₀ rows₀ g₀ turns₀ chunk text kept word old new states picture rows g turns =
     turns
 
 loop-holds : tie.Need-loop-holds Inv-loop μ-loop

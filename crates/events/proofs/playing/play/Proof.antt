@@ -49,7 +49,7 @@ returns c =
     let asked = ran .before .before .before .before .before .before .before .before .before in
     let made = asked .before .before .before .before .before .before .before .before .before .before .before .before .before in
     let a = made .before .before .before .before .before .before .before .before .before .before .before .before .before .before .args in
-    let b : Buffers = buffers (a .old .now) (a .new .now) (a .states .now) (a .numbers .now) (a .picture .now) (a .rows .now) in
+    let b : Buffers = buffers (a .old .now) (a .new .now) (a .states .now) (a .picture .now) (a .rows .now) in
     let h = told (asked .none .ensures) (made .power-on .ensures .1) (ran .before .before .before .before .before .before .before .before .if1 .taken) in (
       (
         making-yes (a .config) (a .events .now) b h _ (made .power-on .ensures .0) _ (ran .run .ensures .0 .0),
@@ -62,7 +62,7 @@ returns-2 : tie.Need-returns-2
 returns-2 c =
     let made = c .before .before .before .before .before .before .before .before .before .before .before .before .before .before in
     let a = made .before .before .before .before .before .before .before .before .before .before .before .before .before .before .args in
-    let b : Buffers = buffers (a .old .now) (a .new .now) (a .states .now) (a .numbers .now) (a .picture .now) (a .rows .now) in
+    let b : Buffers = buffers (a .old .now) (a .new .now) (a .states .now) (a .picture .now) (a .rows .now) in
     let h = told (c .before .none .ensures) (made .power-on .ensures .1) (c .if1 .left) in (
       (making-no (a .config) (a .events .now) b h _ (made .power-on .ensures .0), made .power-on .ensures .1),
       answers-no (a .config) (a .events .now) b h (a .answers .now),

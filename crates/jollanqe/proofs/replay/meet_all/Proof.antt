@@ -9,11 +9,11 @@ use Rattle.jollanqe.proofs.replay.meet_all.Statement.{statement}
 use Rattle.jollanqe.proofs.replay.meet_all.Tie as tie
 
 abbrev Inv-loop : tie.InvT-loop
-Inv-loop watch events dir fd old₀ new₀ states₀ numbers₀ picture₀ rows₀ count chip₀ i₀ old new states numbers picture rows chip i =
-    SameLengths (buffers old₀ new₀ states₀ numbers₀ picture₀ rows₀) (buffers old new states numbers picture rows)
+Inv-loop watch events dir fd old₀ new₀ states₀ picture₀ rows₀ count chip₀ i₀ old new states picture rows chip i =
+    SameLengths (buffers old₀ new₀ states₀ picture₀ rows₀) (buffers old new states picture rows)
 
 abbrev μ-loop : tie.MeasureT-loop
-μ-loop watch events dir fd old₀ new₀ states₀ numbers₀ picture₀ rows₀ count chip₀ i₀ old new states numbers picture rows chip i = count - i
+μ-loop watch events dir fd old₀ new₀ states₀ picture₀ rows₀ count chip₀ i₀ old new states picture rows chip i = count - i
 
 loop-holds : tie.Need-loop-holds Inv-loop μ-loop
 loop-holds c = lengths-first _

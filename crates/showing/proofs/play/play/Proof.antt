@@ -24,7 +24,7 @@ returns c =
     let tested = made .before .before .before .before .before .before .before .before .before .before .before .before in
     let start = tested .before .before .before .before .before .before .before .before in
     let a = start .args in
-    let b : Buffers = buffers (a .old .now) (a .new .now) (a .states .now) (a .numbers .now) (a .picture .now) (a .rows .now) in
+    let b : Buffers = buffers (a .old .now) (a .new .now) (a .states .now) (a .picture .now) (a .rows .now) in
     let e = made .play .ensures in
     let n = program-number (a .file .now) (a .c) (start .pre) (a .form) _ (tested .refusal .ensures) in
     let h = told (made .before .before .before .before .before .before .before .before .before .before .before .none .ensures) n (made .before .before .before .before .before .before .before .before .before .before .if1 .taken) in (
@@ -40,7 +40,7 @@ returns-2 c =
     let tested = c .before .before .before in
     let start = tested .before .before .before .before .before .before .before .before in
     let a = start .args in
-    let b : Buffers = buffers (a .old .now) (a .new .now) (a .states .now) (a .numbers .now) (a .picture .now) (a .rows .now) in
+    let b : Buffers = buffers (a .old .now) (a .new .now) (a .states .now) (a .picture .now) (a .rows .now) in
     let n = program-number (a .file .now) (a .c) (start .pre) (a .form) _ (tested .refusal .ensures) in
     let h = told (c .before .before .none .ensures) n (c .before .if1 .left) in (
       (

@@ -8,11 +8,11 @@ use Rattle.test_calls.proofs.trace.meet_all.Statement.{statement}
 use Rattle.test_calls.proofs.trace.meet_all.Tie as tie
 
 abbrev Inv-loop : tie.InvT-loop
-Inv-loop file count old₀ new₀ states₀ numbers₀ picture₀ rows₀ t₀ chip₀ i₀ old new states numbers picture rows t chip i =
-    SameLengths (buffers old₀ new₀ states₀ numbers₀ picture₀ rows₀) (buffers old new states numbers picture rows)
+Inv-loop file count old₀ new₀ states₀ picture₀ rows₀ t₀ chip₀ i₀ old new states picture rows t chip i =
+    SameLengths (buffers old₀ new₀ states₀ picture₀ rows₀) (buffers old new states picture rows)
 
 abbrev μ-loop : tie.MeasureT-loop
-μ-loop file count old₀ new₀ states₀ numbers₀ picture₀ rows₀ t₀ chip₀ i₀ old new states numbers picture rows t chip i =
+μ-loop file count old₀ new₀ states₀ picture₀ rows₀ t₀ chip₀ i₀ old new states picture rows t chip i =
     count - i
 
 loop-holds : tie.Need-loop-holds Inv-loop μ-loop
