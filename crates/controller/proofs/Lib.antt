@@ -1,1 +1,10 @@
 pub mod TurnedAway
+pub mod Parts
+pub mod Glass
+pub mod Keeps
+pub mod Sound
+pub mod Ends
+pub mod Wide
+pub mod Quiet
+pub mod OneGigahertz
+pub mod VcomRule

@@ -3,7 +3,7 @@
 -- contract of each public call is an equation with these.
 use mathlib.Core.Bool.{Bool, true, false}
 use mathlib.Core.List.{List}
-use Prim.Native.Nat.{ℕ, max}
+use Prim.Native.Nat.{ℕ, _<_, max}
 use lib.Dec.{eqb}
 use lib.ListN.{length}
 use Rattle.base.specs.Pick.{pick}
@@ -43,6 +43,21 @@ pub data Ask : Type 0 where
   askBit : Bool → ℕ → ℕ → Ask
   askRow : ℕ → Ask
   askPicture : ℕ → List ℕ → Ask
+
+-- command and data bytes are bytes
+abbrev pub IsByte : Ask → Type 0
+IsByte (command t c) = c < 256
+IsByte (datum t b) = b < 256
+IsByte (reading t) = Unit {0}
+IsByte (advance t) = Unit {0}
+IsByte (reset t asserted) = Unit {0}
+IsByte (vcomRule t byFrame) = Unit {0}
+IsByte taking = Unit {0}
+IsByte (askBusy t) = Unit {0}
+IsByte askDeadline = Unit {0}
+IsByte (askBit older x y) = Unit {0}
+IsByte (askRow y) = Unit {0}
+IsByte (askPicture top buffer) = Unit {0}
 
 -- ---- the parts of a call that is accepted
 -- a timed call has its time, and may assert reset; taking the rows and the questions have none

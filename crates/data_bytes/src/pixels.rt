@@ -48,7 +48,7 @@ pub(crate) fn past_note(p: Uc8253, a: Active) -> Note
 }
 
 // Eight pixels at the cursor; past the last row nothing is put.
-pub fn put_at(plane: &mut [u8], area: Area, at: Cursor, byte: u8)
+fn put_at(plane: &mut [u8], area: Area, at: Cursor, byte: u8)
     ensures { λ _. ⌜ now (plane .exit) ≡ rule.putAt area at byte (now (plane .entry)) ⌝ }
 {
     if area.y1 < at.y {

@@ -12,8 +12,4 @@ pub mod Lending
 pub mod Demand
 pub mod OnePixel
 pub mod Example
-pub mod TwoDriven
-pub mod Inhabited
-pub mod Acceptance
 pub mod Quiet
-pub mod QuietExample
