@@ -9,6 +9,7 @@ use lib.Dec.{eqb}
 use lib.IntN.{ℤ}
 use borrow.Author.Tests.{eqb-true}
 use Rattle.base.specs.Pick.{pick}
+use Rattle.base.proofs.RefusalWords.{told}
 use Rattle.config.specs.Refusal.{refusal}
 use Rattle.config.proofs.RefusalLaws.{accepted}
 use Rattle.pixels.specs.States.{most, everyState}
@@ -29,10 +30,10 @@ sevens : (s : Bool) → _≡_ {A = ℕ} (pick s 0 7) (pick (not s) 7 0)
 sevens true = refl
 sevens false = refl
 
-pub contents : {a : Bool} {r : ℕ} (swing : ℕ) (b : Buffers) → a ≡ true → r ≡ seven swing (b .states)
-    → r ≡ pick (a && foreignContents swing b) 7 0
+pub contents : {a : Bool} {r : ℕ} (swing : ℕ) (states : List ℤ) → a ≡ true → r ≡ seven swing states
+    → r ≡ pick (a && not (everyState swing states)) 7 0
 unfolding seven
-contents swing b e q = rw e (q ∙ sevens (everyState swing (b .states)))
+contents swing states e q = rw e (q ∙ sevens (everyState swing states))
 
 -- ---- what 6 and 7 leave
 none-of : (f l c : Bool) → _≡_ {A = ℕ} (pick f 6 (pick l (pick c 7 0) 5)) 0 → (f ≡ false) × (c ≡ false)
@@ -59,7 +60,7 @@ clean : (x y : Bool) → x ≡ true → x && not y ≡ false → y ≡ true
 clean true y h e = denied y e
 clean false y h e = absurd (false≢true h)
 
-pub ready : (a : Bool) (t : ℕ) (w : World) → turnedBack a t w ≡ 0
+ready : (a : Bool) (t : ℕ) (w : World) → turnedBack a t w ≡ 0
     → (w .chip .config .optics .«full_swing» ≤ most)
     × (endsRefresh a t (w .chip) ≡ true → everyState (w .chip .config .optics .«full_swing») (w .lent .states) ≡ true)
 unfolding turnedBack
@@ -69,19 +70,26 @@ ready a t w e =
     let k = none-of (foreignRecord (w .chip)) (lentFits (w .chip .config) (w .lent)) (ends && foreignContents swing (w .lent)) e in
     (swing-fits (w .chip) (k .0), λ h. clean ends (everyState swing (w .lent .states)) h (k .1))
 
--- ---- what is lent, after a call has come
-module _ (a : Bool) (t : ℕ) (p : Uc8253) (b : Buffers) where
-  pub come-no : eqb (turnedBack a t (world p b)) 0 ≡ false → b ≡ comeTo a t p b
-  unfolding comeTo
-  come-no z = rw z
+-- ---- a call that has come: n is the number of its refusal, and z that it is none
+module _ (a : Bool) (t : ℕ) (p : Uc8253) (b : Buffers) {n : ℕ} {z : Bool}
+    (number : n ≡ turnedBack a t (world p b)) (none : z ≡ eqb n 0) where
+  -- what driving asks
+  pub come-ready : z ≡ true → (p .config .optics .«full_swing» ≤ most)
+      × (endsRefresh a t p ≡ true → everyState (p .config .optics .«full_swing») (b .states) ≡ true)
+  come-ready h = ready a t (world p b) (eqb-true (turnedBack a t (world p b)) 0 (told none number h))
 
-  pub come-yes : (old : List ℕ) (states : List ℤ) (picture : List ℕ) → eqb (turnedBack a t (world p b)) 0 ≡ true
+  -- and what is lent after it
+  pub come-no : z ≡ false → b ≡ comeTo a t p b
+  unfolding comeTo
+  come-no h = rw (told none number h)
+
+  pub come-yes : {old : List ℕ} {states : List ℤ} {picture : List ℕ} → z ≡ true
       → old ≡ oldArrived t p (b .old) (b .new)
       → states ≡ statesBy (drivenAt own a t p) p (b .old) (b .new) (b .states)
       → picture ≡ pictureBy (drivenAt own a t p) p states (b .picture)
       → buffers old (b .new) states picture (b .rows) ≡ comeTo a t p b
   unfolding comeTo settled
-  come-yes old states picture z eo es ep =
-      rw z
+  come-yes h eo es ep =
+      rw (told none number h)
       (λ i. buffers (eo i) (b .new) (es i)
       ((ep ∙ ap (λ (s : List ℤ). pictureBy (drivenAt own a t p) p s (b .picture)) es) i) (b .rows))

@@ -1,5 +1,4 @@
 -- `lending::turned_back` meets its contract, by 6, 5 and 7 in order.
-use Rattle.controller.specs.World.{buffers}
 use Rattle.controller.specs.TurnedBack.{turnedBack}
 use Rattle.lending.proofs.Coming.{not-both, contents}
 use Rattle.base.proofs.Chain.{yes, no}
@@ -14,7 +13,7 @@ returns c = yes _ (sym (c .before .foreign .ensures) ∙ c .if1 .taken) refl
 
 returns-2 : tie.Need-returns-2
 unfolding turnedBack
-returns-2 c = let g = c .before .before .before .before .before .before .before .before .before .before .before .before .args in no _ (sym (c .before .before .before .before .before .before .before .foreign .ensures) ∙ c .before .before .before .before .before .before .if1 .left) (yes _ (sym (c .before .before .before .before .lengths-fit .ensures) ∙ c .before .before .before .if2 .taken) (contents _ (buffers (g .old .now) (g .new .now) (g .states .now) (g .picture .now) (g .rows .now)) (sym (c .before .before .ends-refresh .ensures) ∙ c .before .if3 .taken) (c .foreign-contents .ensures)))
+returns-2 c = no _ (sym (c .before .before .before .before .before .before .before .foreign .ensures) ∙ c .before .before .before .before .before .before .if1 .left) (yes _ (sym (c .before .before .before .before .lengths-fit .ensures) ∙ c .before .before .before .if2 .taken) (contents _ _ (sym (c .before .before .ends-refresh .ensures) ∙ c .before .if3 .taken) (c .foreign-contents .ensures)))
 
 returns-3 : tie.Need-returns-3
 unfolding turnedBack

@@ -1,4 +1,4 @@
--- `uc8253::write_command` meets its contract: the call comes, and then the command byte (`call-accepted`); or it is turned back (`call-refused`).
+-- `uc8253::write_command` meets its contract: the call comes, and then the command (`call-accepted`); or it is turned back (`call-refused`).
 use Rattle.controller.specs.Ask.{newAfter}
 use Rattle.controller.specs.Ask as ask
 use Rattle.uc8253.proofs.Calls.{call-accepted, call-refused}
