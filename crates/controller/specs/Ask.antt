@@ -95,7 +95,7 @@ chipAfter clock (askBit older x y) p = p
 chipAfter clock (askRow y) p = p
 chipAfter clock (askPicture top buffer) p = p
 
--- what it tells: a command byte that the previous command closes, then its own
+-- what it tells; a command byte first what is told as the previous command closes, then its own
 abbrev pub toldBy : Ask → Uc8253 → Notes
 toldBy (command t c) p = notes (closeNote (arrived t p .stage .current)) (commandNote c (arrived t p))
 toldBy (datum t b) p = notes (dataNote b (arrived t p)) Quiet

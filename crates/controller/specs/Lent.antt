@@ -19,12 +19,6 @@ Slice X = RefT (List X)
 abbrev pub Lent : Type 0 → Type 0
 Lent X = Both (Slice X) (Slice X)
 
--- a list that the function is not lent, and so leaves as it is; nothing reads its pointer and its name
-abbrev pub kept : {X : Type 0} → List X → Lent X
-kept l =
-    let x : Slice _ = record { ptr = (0, 0); name = 0; now = l } in
-    record { entry = x; exit = x }
-
 -- the old plane, the new, the states, the picture and the rows
 abbrev pub Over {ℓ} : Type ℓ → Type ℓ
 Over A = Lent ℕ → Lent ℕ → Lent ℤ → Lent ℕ → Lent ℕ → A
@@ -71,12 +65,6 @@ Makes f number q r old new states picture rows =
     (world q (after old new states picture rows) ≡ f (before old new states picture rows))
     × (refusalNumber r ≡ number (before old new states picture rows))
 
--- the rows alone, or one plane and the rows, whatever else is lent
+-- the rows alone, whatever else is lent
 abbrev pub TurnsRows : (World → World) → Uc8253 → Uc8253 → Lent ℕ → Type 0
 TurnsRows f p q rows = (b : Buffers) → world q (withRows (now (rows .exit)) b) ≡ f (world p (withRows (now (rows .entry)) b))
-
-abbrev pub TurnsPlane : (List ℕ → Buffers → Buffers) → (World → World) → Uc8253 → Uc8253 → Lent ℕ → Lent ℕ → Type 0
-TurnsPlane put f p q plane rows =
-    (b : Buffers)
-    → world q (withRows (now (rows .exit)) (put (now (plane .exit)) b))
-    ≡ f (world p (withRows (now (rows .entry)) (put (now (plane .entry)) b)))

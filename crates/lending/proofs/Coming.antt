@@ -1,5 +1,5 @@
--- A call that comes: the number of refusal 7; one that is not turned back knows the swing and, where it ends a refresh, the states; and what
--- is lent after either.
+-- A call that comes: the number of refusal 7; one that is not turned back knows the swing and, where it ends a refresh, the states; and
+-- what is lent after either.
 use mathlib.Core.Path.{_≡_, refl, sym, ap, _∙_}
 use mathlib.Core.Bool.{Bool, true, false, _&&_, _||_, not, false≢true}
 use mathlib.Core.List.{List}

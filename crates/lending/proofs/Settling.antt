@@ -1,4 +1,5 @@
--- A refresh that a call ends: how the glass is driven tells that it ends, and what becomes of the old plane. By the two tests of `drivenAt`.
+-- A refresh that a call ends: how the glass is driven tells that it ends, and what becomes of the old plane, by the two tests of
+-- `drivenAt`.
 use mathlib.Core.Path.{_≡_, refl, sym, ap, _∙_}
 use mathlib.Core.Bool.{Bool, true, false, _&&_, _||_}
 use mathlib.Core.List.{List}
@@ -81,7 +82,8 @@ module _ (a : Bool) (t : ℕ) (p : Uc8253) where
   old-by (drive.First n) old new h = rw (how-first (endsRefresh a t p) due frames n h .1)
 
   -- old plane, states and picture, each as its function left it
-  pub settled-by : (how : Drive) (old new : List ℕ) (states : List ℤ) (picture : List ℕ) {old′ : List ℕ} {states′ : List ℤ} {picture′ : List ℕ}
+  pub settled-by : (how : Drive) (old new : List ℕ) (states : List ℤ) (picture : List ℕ)
+      {old′ : List ℕ} {states′ : List ℤ} {picture′ : List ℕ}
       → drivenAt own a t p ≡ how
       → old′ ≡ oldBy how p old new
       → states′ ≡ statesBy how p old new states
@@ -90,4 +92,6 @@ module _ (a : Bool) (t : ℕ) (p : Uc8253) where
       × ((states′ ≡ statesBy (drivenAt own a t p) p old new states)
       × (picture′ ≡ pictureBy (drivenAt own a t p) p states′ picture))
   settled-by how old new states picture {states′ = s} h eo es ep =
-      (eo ∙ sym (old-by how old new h), (es ∙ ap (λ (d : Drive). statesBy d p old new states) (sym h), ep ∙ ap (λ (d : Drive). pictureBy d p s picture) (sym h)))
+      let ds = ap (λ (d : Drive). statesBy d p old new states) (sym h) in
+      let dp = ap (λ (d : Drive). pictureBy d p s picture) (sym h) in
+      (eo ∙ sym (old-by how old new h), (es ∙ ds, ep ∙ dp))

@@ -105,7 +105,7 @@ pub fn start(p: Uc8253, work: Work, ns: u64) -> Uc8253
 
 // The whole frames that a refresh has run once the clock is at a time: those of the time since its
 // start, converted.
-pub fn elapsed(p: Uc8253, at: u64) -> u64
+fn elapsed(p: Uc8253, at: u64) -> u64
     ensures { λ r. ⌜ r ≡ refresh.elapsed own (withNow at p) ⌝ }
 {
     let run = saturating_sub(at, p.operation.started);

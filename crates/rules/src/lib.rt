@@ -7,7 +7,6 @@ mod refused;
 mod uses;
 
 pub use changes::drive_at;
-pub use changes::elapsed;
 pub use changes::logged;
 pub use changes::rested;
 pub use changes::start;

@@ -3,7 +3,7 @@ use Rattle.controller.specs.Reset.{resetEdge, edgeNotes}
 use Rattle.controller.specs.Counting.{own}
 use Rattle.controller.specs.Ask as ask
 use Rattle.chip.proofs.Told.{record-told}
-use mathlib.Core.Path.{refl, ap, _∙_}
+use mathlib.Core.Path.{ap, _∙_}
 use borrow.Author.Needs.{needs}
 use Rattle.chip.proofs.after_reset.Statement.{statement}
 use Rattle.chip.proofs.after_reset.Tie as tie

@@ -1,6 +1,6 @@
 -- `chip::told_command` meets its contract: the closing of the previous command and its own, once the call has arrived.
 use Rattle.chip.specs.InnerSteps as steps
-use mathlib.Core.Path.{refl, ap, _∙_}
+use mathlib.Core.Path.{ap, _∙_}
 use borrow.Author.Needs.{needs}
 use Rattle.chip.proofs.told_command.Statement.{statement}
 use Rattle.chip.proofs.told_command.Tie as tie

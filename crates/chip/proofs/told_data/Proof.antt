@@ -1,7 +1,7 @@
 -- `chip::told_data` meets its contract: the note of the data byte, once the call has arrived.
 use Rattle.controller.specs.DataByte.{dataNote}
 use Rattle.chip.specs.InnerSteps as steps
-use mathlib.Core.Path.{refl, ap, _∙_}
+use mathlib.Core.Path.{ap, _∙_}
 use borrow.Author.Needs.{needs}
 use Rattle.chip.proofs.told_data.Statement.{statement}
 use Rattle.chip.proofs.told_data.Tie as tie

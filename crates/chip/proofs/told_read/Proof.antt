@@ -1,7 +1,7 @@
 -- `chip::told_read` meets its contract: the note of the read, once the call has arrived.
 use Rattle.controller.specs.Reading.{readNote}
 use Rattle.chip.specs.InnerSteps as steps
-use mathlib.Core.Path.{refl, ap, _∙_}
+use mathlib.Core.Path.{ap, _∙_}
 use borrow.Author.Needs.{needs}
 use Rattle.chip.proofs.told_read.Statement.{statement}
 use Rattle.chip.proofs.told_read.Tie as tie

@@ -1,6 +1,6 @@
 -- `chip::told_reset` meets its contract: those of the edge, once the call has arrived.
 use Rattle.controller.specs.Reset.{edgeNotes}
-use mathlib.Core.Path.{refl, ap, _∙_}
+use mathlib.Core.Path.{ap, _∙_}
 use borrow.Author.Needs.{needs}
 use Rattle.chip.proofs.told_reset.Statement.{statement}
 use Rattle.chip.proofs.told_reset.Tie as tie

@@ -3,7 +3,6 @@ use Rattle.controller.specs.World.{world, buffers}
 use borrow.Author.Tests.{eqb-true}
 use Rattle.base.proofs.RefusalWords.{told}
 use Rattle.lending.proofs.Coming.{ready, come-yes, come-no}
-use mathlib.Core.Path.{refl}
 use borrow.Author.Needs.{needs}
 use Rattle.lending.proofs.come.Statement.{statement}
 use Rattle.lending.proofs.come.Tie as tie

@@ -3,8 +3,6 @@ use Rattle.controller.specs.DataByte.{forOld, forNew, planeByte}
 use Rattle.controller.specs.declared.notes.Notes.{Notes}
 use Rattle.controller.specs.Ask.{newAfter, rowsAfter}
 use Rattle.controller.specs.declared.Uc8253.{Uc8253}
-use mathlib.Core.List.{List}
-use Prim.Native.Nat.{ℕ}
 use Rattle.lending.specs.InnerSteps.{stored}
 use mathlib.Core.Path.{ap, _∙_}
 use borrow.Author.Needs.{needs}
