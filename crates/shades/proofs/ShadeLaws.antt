@@ -30,7 +30,7 @@ small w h k l = omega (arith, mul-le-mul {n₁ = w} {m₁ = h} {n₂ = 65_535} {
 room-whole : (w : World) → Sound w → room (w .chip) ≡ w .chip .config .panel .sources * w .chip .config .panel .gates
 unfolding room
 room-whole w s =
-    let a = accepted (w .chip .config) (s .config) in
+    let a = accepted (w .chip .config) (s .chip .config) in
     omega (arith, mul-le-mul {n₁ = w .chip .config .panel .sources} {m₁ = w .chip .config .panel .gates} {n₂ = 800} {m₂ = 600} (a .sources-most) (a .gates-most))
 
 pub shades-are : (f : Form) (top : ℕ) (w : World) → Sound w
