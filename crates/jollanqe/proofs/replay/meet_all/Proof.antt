@@ -36,17 +36,12 @@ same-length-3 c =
 same-length-4 : tie.Need-same-length-4 Inv-loop μ-loop
 same-length-4 c =
     let at = c .before .before .before .before .before .before .before .before .before .before .before .before .before in
-    at .meet .kept .1 .1 .1 .1 .1 .1 .1 .1 .0 ∙ at .before .before .before .before .before .before .before .before .before .loop .inv .numbers-long
+    at .meet .kept .1 .1 .1 .1 .1 .1 .1 .1 .0 ∙ at .before .before .before .before .before .before .before .before .before .loop .inv .picture-long
 
 same-length-5 : tie.Need-same-length-5 Inv-loop μ-loop
 same-length-5 c =
     let at = c .before .before .before .before .before .before .before .before .before .before .before .before .before in
-    at .meet .kept .1 .1 .1 .1 .1 .1 .1 .1 .1 .0 ∙ at .before .before .before .before .before .before .before .before .before .loop .inv .picture-long
-
-same-length-6 : tie.Need-same-length-6 Inv-loop μ-loop
-same-length-6 c =
-    let at = c .before .before .before .before .before .before .before .before .before .before .before .before .before in
-    at .meet .kept .1 .1 .1 .1 .1 .1 .1 .1 .1 .1 .0 ∙ at .before .before .before .before .before .before .before .before .before .loop .inv .rows-long
+    at .meet .kept .1 .1 .1 .1 .1 .1 .1 .1 .1 .0 ∙ at .before .before .before .before .before .before .before .before .before .loop .inv .rows-long
 
 add-i : tie.Need-add-i Inv-loop μ-loop
 add-i c = omega (arith, c .before .before .before .before .before .before .before .before .before .before .before .before .before .before .before .before .before .before .before .before .before .before .loop-test .taken, c .before .before .before .before .before .before .before .before .before .before .before .before .before .before .before .before .before .before .before .before .before .before .before .before .before .before .before .before .before .before .before .good .1 .1 .0 .0)
@@ -63,28 +58,24 @@ loop-again c =
       old-long = long .0;
       new-long = long .1 .0;
       states-long = long .1 .1 .0;
-      numbers-long = long .1 .1 .1 .0;
-      picture-long = long .1 .1 .1 .1 .0;
-      rows-long = long .1 .1 .1 .1 .1 .0;
+      picture-long = long .1 .1 .1 .0;
+      rows-long = long .1 .1 .1 .1 .0;
     })
 
+same-length-6 : tie.Need-same-length-6 Inv-loop μ-loop
+same-length-6 c = c .before .loop .inv .old-long
+
 same-length-7 : tie.Need-same-length-7 Inv-loop μ-loop
-same-length-7 c = c .before .loop .inv .old-long
+same-length-7 c = c .before .loop .inv .new-long
 
 same-length-8 : tie.Need-same-length-8 Inv-loop μ-loop
-same-length-8 c = c .before .loop .inv .new-long
+same-length-8 c = c .before .loop .inv .states-long
 
 same-length-9 : tie.Need-same-length-9 Inv-loop μ-loop
-same-length-9 c = c .before .loop .inv .states-long
+same-length-9 c = c .before .loop .inv .picture-long
 
 same-length-10 : tie.Need-same-length-10 Inv-loop μ-loop
-same-length-10 c = c .before .loop .inv .numbers-long
-
-same-length-11 : tie.Need-same-length-11 Inv-loop μ-loop
-same-length-11 c = c .before .loop .inv .picture-long
-
-same-length-12 : tie.Need-same-length-12 Inv-loop μ-loop
-same-length-12 c = c .before .loop .inv .rows-long
+same-length-10 c = c .before .loop .inv .rows-long
 
 pub meet-all-spec : {M : Type 1} → statement M
 meet-all-spec =
@@ -100,16 +91,16 @@ meet-all-spec =
     same-length-2
     same-length-3
     same-length-4
+    same-length-4
     same-length-5
-    same-length-6
     (λ c. search needs)
     add-i
     loop-less
     loop-again
+    same-length-6
     same-length-7
     same-length-8
+    same-length-10
     same-length-9
     same-length-10
-    same-length-11
-    same-length-12
     (λ c. search needs))
