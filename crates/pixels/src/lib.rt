@@ -1,5 +1,5 @@
-// The glass over lent buffers (mod.rs: new, finish): the states, the table numbers and the picture,
-// an entry for each pixel.
+// The glass over lent buffers (mod.rs: new, finish): the states and the picture, an entry for each
+// pixel.
 ghost use mathlib.Core.Path.{_≡_};
 ghost use mathlib.Core.Bool.{true};
 ghost use Prim.Native.Nat.{_*_, _≤_, min};
@@ -79,7 +79,7 @@ pub fn fill_states(states: &mut [i64], state: u64)
     }
 }
 
-// Every byte becomes one: the picture the initial grey, planes and table numbers 0.
+// Every byte becomes one: the picture the initial grey, planes 0.
 pub fn fill_bytes(bytes: &mut [u8], b: u8)
     ensures { λ _. ⌜ now (bytes .exit) ≡ replicate (length (now (bytes .entry))) b ⌝ }
 {
