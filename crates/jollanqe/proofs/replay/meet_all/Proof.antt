@@ -20,40 +20,40 @@ loop-holds c = lengths-first _
 
 same-length : tie.Need-same-length Inv-loop μ-loop
 same-length c =
-    let at = c .before .before .before .before .before .before .before .before .before .before .before .before .before in
-    at .meet .kept .1 .1 .1 .1 .1 .0 ∙ at .before .before .before .before .before .before .before .before .before .loop .inv .old-long
+    let at = c .before .before .before .before .before .before .before .before .before .before .before in
+    at .meet .kept .1 .1 .1 .1 .1 .0 ∙ at .before .before .before .before .before .before .before .before .loop .inv .old-long
 
 same-length-2 : tie.Need-same-length-2 Inv-loop μ-loop
 same-length-2 c =
-    let at = c .before .before .before .before .before .before .before .before .before .before .before .before .before in
-    at .meet .kept .1 .1 .1 .1 .1 .1 .0 ∙ at .before .before .before .before .before .before .before .before .before .loop .inv .new-long
+    let at = c .before .before .before .before .before .before .before .before .before .before .before in
+    at .meet .kept .1 .1 .1 .1 .1 .1 .0 ∙ at .before .before .before .before .before .before .before .before .loop .inv .new-long
 
 same-length-3 : tie.Need-same-length-3 Inv-loop μ-loop
 same-length-3 c =
-    let at = c .before .before .before .before .before .before .before .before .before .before .before .before .before in
-    at .meet .kept .1 .1 .1 .1 .1 .1 .1 .0 ∙ at .before .before .before .before .before .before .before .before .before .loop .inv .states-long
+    let at = c .before .before .before .before .before .before .before .before .before .before .before in
+    at .meet .kept .1 .1 .1 .1 .1 .1 .1 .0 ∙ at .before .before .before .before .before .before .before .before .loop .inv .states-long
 
 same-length-4 : tie.Need-same-length-4 Inv-loop μ-loop
 same-length-4 c =
-    let at = c .before .before .before .before .before .before .before .before .before .before .before .before .before in
-    at .meet .kept .1 .1 .1 .1 .1 .1 .1 .1 .0 ∙ at .before .before .before .before .before .before .before .before .before .loop .inv .picture-long
+    let at = c .before .before .before .before .before .before .before .before .before .before .before in
+    at .meet .kept .1 .1 .1 .1 .1 .1 .1 .1 .0 ∙ at .before .before .before .before .before .before .before .before .loop .inv .picture-long
 
 same-length-5 : tie.Need-same-length-5 Inv-loop μ-loop
 same-length-5 c =
-    let at = c .before .before .before .before .before .before .before .before .before .before .before .before .before in
-    at .meet .kept .1 .1 .1 .1 .1 .1 .1 .1 .1 .0 ∙ at .before .before .before .before .before .before .before .before .before .loop .inv .rows-long
+    let at = c .before .before .before .before .before .before .before .before .before .before .before in
+    at .meet .kept .1 .1 .1 .1 .1 .1 .1 .1 .1 .0 ∙ at .before .before .before .before .before .before .before .before .loop .inv .rows-long
 
 add-i : tie.Need-add-i Inv-loop μ-loop
-add-i c = omega (arith, c .before .before .before .before .before .before .before .before .before .before .before .before .before .before .before .before .before .before .before .before .before .before .loop-test .taken, c .before .before .before .before .before .before .before .before .before .before .before .before .before .before .before .before .before .before .before .before .before .before .before .before .before .before .before .before .before .before .before .good .1 .1 .0 .0)
+add-i c = omega (arith, c .before .before .before .before .before .before .before .before .before .before .before .before .before .before .before .before .before .before .before .loop-test .taken, c .before .before .before .before .before .before .before .before .before .before .before .before .before .before .before .before .before .before .before .before .before .before .before .before .before .before .before .good .1 .1 .0 .0)
 
 loop-less : tie.Need-loop-less Inv-loop μ-loop
-loop-less c = omega (arith, c .before .before .before .before .before .before .before .before .before .before .before .before .before .before .before .before .before .before .before .before .before .before .loop-test .taken)
+loop-less c = omega (arith, c .before .before .before .before .before .before .before .before .before .before .before .before .before .before .before .before .before .before .before .loop-test .taken)
 
 loop-again : tie.Need-loop-again Inv-loop μ-loop
 loop-again c =
-    let at = c .before .before .before .before .before .before .before .before .before .before .before .before .before .before in
+    let at = c .before .before .before .before .before .before .before .before .before .before .before .before in
     let long = at .meet .kept .1 .1 .1 .1 .1 in
-    lengths-more (at .before .before .before .before .before .before .before .before .before .loop .inv)
+    lengths-more (at .before .before .before .before .before .before .before .before .loop .inv)
     (record {
       old-long = long .0;
       new-long = long .1 .0;
@@ -91,7 +91,6 @@ meet-all-spec =
     same-length-2
     same-length-3
     same-length-4
-    same-length-4
     same-length-5
     (λ c. search needs)
     add-i
@@ -100,7 +99,6 @@ meet-all-spec =
     same-length-6
     same-length-7
     same-length-8
-    same-length-10
     same-length-9
     same-length-10
     (λ c. search needs))
