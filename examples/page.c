@@ -61,11 +61,11 @@ static void draw(uint8_t plane[PLANE], bool (*is_black)(int, int)) {
 
 /* ---- the panel ---- */
 
-static uint8_t old_plane[JOLLANQE_PLANE_BYTES], new_plane[JOLLANQE_PLANE_BYTES], numbers[PIXELS], picture[PIXELS];
+static uint8_t old_plane[JOLLANQE_PLANE_BYTES], new_plane[JOLLANQE_PLANE_BYTES], picture[PIXELS];
 static int64_t states[PIXELS];
 static uint64_t rows[JOLLANQE_ROWS_LENGTH];
 static const jollanqe_buffers lent = {
-    old_plane, JOLLANQE_PLANE_BYTES, new_plane, JOLLANQE_PLANE_BYTES, states, PIXELS, numbers, PIXELS, picture, PIXELS,
+    old_plane, JOLLANQE_PLANE_BYTES, new_plane, JOLLANQE_PLANE_BYTES, states, PIXELS, picture, PIXELS,
     rows,      JOLLANQE_ROWS_LENGTH,
 };
 

@@ -1,7 +1,7 @@
 /*
  * Jollanqe: the UC8253/UC8279d e-paper controller and the glass behind it, for C and C++.
  *
- * A panel is a record, which goes to a call by value and comes back changed, and six buffers, which
+ * A panel is a record, which goes to a call by value and comes back changed, and five buffers, which
  * the host owns and lends to each call. jollanqe_make fills both. The library keeps nothing between
  * calls, allocates nothing and calls memcpy, memmove and memset alone. docs/HOSTS.md shows how it is
  * built and used; the capture's and the commands' bytes are in docs/FORMAT.md.
@@ -52,7 +52,7 @@ JOLLANQE_HOLDS(sizeof(size_t) == 8 && sizeof(bool) == 1);
 #define JOLLANQE_MOST_SOURCES 800
 #define JOLLANQE_MOST_GATES 600
 
-/* Lengths of the lent buffers. States, table numbers and picture have sources x gates entries each. */
+/* Lengths of the lent buffers. States and picture have sources x gates entries each. */
 #define JOLLANQE_PLANE_BYTES 60000
 #define JOLLANQE_ROW_NUMBERS 5
 #define JOLLANQE_MOST_ROWS 1024
@@ -77,7 +77,7 @@ enum jollanqe_refusal {
     JOLLANQE_FRAME_PERIOD = 4,     /* one of the 32 periods is 0 */
     JOLLANQE_BUFFER_LENGTH = 5,    /* a lent buffer has not its length */
     JOLLANQE_FOREIGN_RECORD = 6,   /* a record that no call gives: docs/FORMAT.md has the ranges */
-    JOLLANQE_FOREIGN_CONTENTS = 7, /* a state or a table number is out of range, as a refresh ends or for a picture */
+    JOLLANQE_FOREIGN_CONTENTS = 7, /* a state is out of range, as a refresh ends or for a picture */
     JOLLANQE_BROKEN_CAPTURE = 8,   /* the file's length or its trailer */
     JOLLANQE_BAD_EVENT = 9,        /* a variant, flag, event kind or value that is not listed */
     JOLLANQE_TOO_MANY_PIXELS = 10, /* more than the program has room for */
@@ -349,10 +349,9 @@ JOLLANQE_HOLDS(sizeof(jollanqe_asked) == 16 && offsetof(jollanqe_asked, known) =
 /* ---- the calls ---- */
 
 /*
- * The six buffers, which every call but the last five is lent after its own arguments:
+ * The five buffers, which every call but the last five is lent after its own arguments:
  *   old_plane, new_plane  60,000 bytes each: 600 rows of 100 bytes, the first column in a byte's highest bit
  *   states                sources x gates: where each pixel stands, 0 black to the full swing
- *   numbers               sources x gates: the table that drives each pixel, 1 to 4, or 255
  *   picture               sources x gates greys, rows from the top left, 0 black to 255 white
  *   rows                  5,120: stored diagnostics, five numbers each: time, kind, three fields
  */
@@ -362,42 +361,37 @@ JOLLANQE_HOLDS(sizeof(jollanqe_asked) == 16 && offsetof(jollanqe_asked, known) =
  * points (a file of these and the trailer 0, 0 will do), at 1 GHz, or at the rate behind them where the
  * file has offset + 328 bytes. Bytes past the file's end count as 0, so an empty file is refused by 1.
  * Refusals 8 and 9 are not tested: a variant other than 0 is a UC8279d, and flags above bit 3 are passed
- * over. Every entry of the six buffers is set.
+ * over. Every entry of the five buffers is set.
  */
 jollanqe_given jollanqe_make(const uint8_t *file, size_t file_length, uint8_t *old_plane, size_t old_length,
                              uint8_t *new_plane, size_t new_length, int64_t *states, size_t states_length,
-                             uint8_t *numbers, size_t numbers_length, uint8_t *picture, size_t picture_length,
-                             uint64_t *rows, size_t rows_length);
+                             uint8_t *picture, size_t picture_length, uint64_t *rows, size_t rows_length);
 
 /* A command byte (D/C# low) at a time. */
 jollanqe_given jollanqe_command(jollanqe_record chip, uint64_t at, uint8_t command, uint8_t *old_plane,
                                 size_t old_length, uint8_t *new_plane, size_t new_length, int64_t *states,
-                                size_t states_length, uint8_t *numbers, size_t numbers_length, uint8_t *picture,
-                                size_t picture_length, uint64_t *rows, size_t rows_length);
+                                size_t states_length, uint8_t *picture, size_t picture_length, uint64_t *rows,
+                                size_t rows_length);
 
 /* A data byte (D/C# high) at a time. */
 jollanqe_given jollanqe_data(jollanqe_record chip, uint64_t at, uint8_t byte, uint8_t *old_plane, size_t old_length,
                              uint8_t *new_plane, size_t new_length, int64_t *states, size_t states_length,
-                             uint8_t *numbers, size_t numbers_length, uint8_t *picture, size_t picture_length,
-                             uint64_t *rows, size_t rows_length);
+                             uint8_t *picture, size_t picture_length, uint64_t *rows, size_t rows_length);
 
 /* The host reads a byte: `answer` is the byte, or 256 where the controller drives nothing. */
 jollanqe_given jollanqe_read(jollanqe_record chip, uint64_t at, uint8_t *old_plane, size_t old_length,
                              uint8_t *new_plane, size_t new_length, int64_t *states, size_t states_length,
-                             uint8_t *numbers, size_t numbers_length, uint8_t *picture, size_t picture_length,
-                             uint64_t *rows, size_t rows_length);
+                             uint8_t *picture, size_t picture_length, uint64_t *rows, size_t rows_length);
 
 /* RST_N falls (asserted) or rises. */
 jollanqe_given jollanqe_reset(jollanqe_record chip, uint64_t at, bool asserted, uint8_t *old_plane, size_t old_length,
                               uint8_t *new_plane, size_t new_length, int64_t *states, size_t states_length,
-                              uint8_t *numbers, size_t numbers_length, uint8_t *picture, size_t picture_length,
-                              uint64_t *rows, size_t rows_length);
+                              uint8_t *picture, size_t picture_length, uint64_t *rows, size_t rows_length);
 
 /* Time passes: what has come to its end by then ends. */
 jollanqe_given jollanqe_advance(jollanqe_record chip, uint64_t at, uint8_t *old_plane, size_t old_length,
                                 uint8_t *new_plane, size_t new_length, int64_t *states, size_t states_length,
-                                uint8_t *numbers, size_t numbers_length, uint8_t *picture, size_t picture_length,
-                                uint64_t *rows, size_t rows_length);
+                                uint8_t *picture, size_t picture_length, uint64_t *rows, size_t rows_length);
 
 /*
  * Time passes, and VCOM goes by frame (true: rule 2) or by phase (false: rule 1) from the next refresh on. One
@@ -405,8 +399,8 @@ jollanqe_given jollanqe_advance(jollanqe_record chip, uint64_t at, uint8_t *old_
  */
 jollanqe_given jollanqe_vcom_rule(jollanqe_record chip, uint64_t at, bool by_frame, uint8_t *old_plane,
                                   size_t old_length, uint8_t *new_plane, size_t new_length, int64_t *states,
-                                  size_t states_length, uint8_t *numbers, size_t numbers_length, uint8_t *picture,
-                                  size_t picture_length, uint64_t *rows, size_t rows_length);
+                                  size_t states_length, uint8_t *picture, size_t picture_length, uint64_t *rows,
+                                  size_t rows_length);
 
 /*
  * Events of ten bytes one after the other: time (8, lowest byte first), kind, value. answers[i] becomes
@@ -422,9 +416,8 @@ jollanqe_given jollanqe_vcom_rule(jollanqe_record chip, uint64_t at, bool by_fra
  */
 jollanqe_given jollanqe_run(jollanqe_record chip, const uint8_t *events, size_t events_length, uint16_t *answers,
                             size_t answers_length, uint8_t *old_plane, size_t old_length, uint8_t *new_plane,
-                            size_t new_length, int64_t *states, size_t states_length, uint8_t *numbers,
-                            size_t numbers_length, uint8_t *picture, size_t picture_length, uint64_t *rows,
-                            size_t rows_length);
+                            size_t new_length, int64_t *states, size_t states_length, uint8_t *picture,
+                            size_t picture_length, uint64_t *rows, size_t rows_length);
 
 /* Takes the stored rows: `answer` says how many; they stand at the front of `rows`, which is not changed. */
 jollanqe_given jollanqe_take(jollanqe_record chip, const uint64_t *rows, size_t rows_length);
@@ -453,7 +446,7 @@ jollanqe_asked jollanqe_picture(jollanqe_record chip, const int64_t *states, siz
 
 /* ---- beside the library ---- */
 
-/* The six buffers of a panel, for a host that keeps them together; JOLLANQE_LENT lends them to a call. */
+/* The five buffers of a panel, for a host that keeps them together; JOLLANQE_LENT lends them to a call. */
 typedef struct jollanqe_buffers {
     uint8_t *old_plane;
     size_t old_length;
@@ -461,8 +454,6 @@ typedef struct jollanqe_buffers {
     size_t new_length;
     int64_t *states;
     size_t states_length;
-    uint8_t *numbers;
-    size_t numbers_length;
     uint8_t *picture;
     size_t picture_length;
     uint64_t *rows;
@@ -470,8 +461,8 @@ typedef struct jollanqe_buffers {
 } jollanqe_buffers;
 
 #define JOLLANQE_LENT(b)                                                                                               \
-    (b).old_plane, (b).old_length, (b).new_plane, (b).new_length, (b).states, (b).states_length, (b).numbers,          \
-        (b).numbers_length, (b).picture, (b).picture_length, (b).rows, (b).rows_length
+    (b).old_plane, (b).old_length, (b).new_plane, (b).new_length, (b).states, (b).states_length, (b).picture,          \
+        (b).picture_length, (b).rows, (b).rows_length
 
 /* The word of a refusal's number; "" for a number that is none. */
 static inline const char *jollanqe_refusal_word(unsigned number) {

@@ -307,16 +307,16 @@ def _slice(letter):
     return [POINTER(_SLICE_TYPES[letter]), c_size_t]
 
 
-_SIX = [kind for letter in "BBqBBQ" for kind in _slice(letter)]
+_FIVE = [kind for letter in "BBqBQ" for kind in _slice(letter)]
 _CALLS = {
-    "jollanqe_make": (Given, _slice("B") + _SIX),
-    "jollanqe_command": (Given, [Record, c_uint64, c_uint8] + _SIX),
-    "jollanqe_data": (Given, [Record, c_uint64, c_uint8] + _SIX),
-    "jollanqe_read": (Given, [Record, c_uint64] + _SIX),
-    "jollanqe_reset": (Given, [Record, c_uint64, c_bool] + _SIX),
-    "jollanqe_advance": (Given, [Record, c_uint64] + _SIX),
-    "jollanqe_vcom_rule": (Given, [Record, c_uint64, c_bool] + _SIX),
-    "jollanqe_run": (Given, [Record] + _slice("B") + _slice("H") + _SIX),
+    "jollanqe_make": (Given, _slice("B") + _FIVE),
+    "jollanqe_command": (Given, [Record, c_uint64, c_uint8] + _FIVE),
+    "jollanqe_data": (Given, [Record, c_uint64, c_uint8] + _FIVE),
+    "jollanqe_read": (Given, [Record, c_uint64] + _FIVE),
+    "jollanqe_reset": (Given, [Record, c_uint64, c_bool] + _FIVE),
+    "jollanqe_advance": (Given, [Record, c_uint64] + _FIVE),
+    "jollanqe_vcom_rule": (Given, [Record, c_uint64, c_bool] + _FIVE),
+    "jollanqe_run": (Given, [Record] + _slice("B") + _slice("H") + _FIVE),
     "jollanqe_take": (Given, [Record] + _slice("Q")),
     "jollanqe_busy": (Asked, [Record, c_uint64]),
     "jollanqe_deadline": (Asked, [Record]),
@@ -557,15 +557,15 @@ def event(at, kind, value=0):
 
 # ---- panels ----
 
-_ORDER = (("old", "B"), ("new", "B"), ("states", "q"), ("numbers", "B"), ("picture", "B"), ("rows", "Q"))
+_ORDER = (("old", "B"), ("new", "B"), ("states", "q"), ("picture", "B"), ("rows", "Q"))
 
 
 class Panel:
     """A panel behind its controller.
 
-    `configuration` is a Configuration. The six buffers are made by the panel, or handed in by name:
+    `configuration` is a Configuration. The five buffers are made by the panel, or handed in by name:
     bytearrays, array.arrays, ctypes arrays or any other writable buffers in one piece, `old` and
-    `new` of 60,000 bytes, `states` ('q'), `numbers` and `picture` of sources x gates entries, `rows`
+    `new` of 60,000 bytes, `states` ('q') and `picture` of sources x gates entries, `rows`
     ('Q') of 5,120. `panel.old`, `panel.picture` and so on show them as ctypes arrays; a host may look
     at them at any time and change them between calls. The library tests their lengths and entries.
 
@@ -576,7 +576,7 @@ class Panel:
     def __init__(self, configuration, **buffers):
         file = write_capture(configuration)
         pixels = min(configuration.sources * configuration.gates, MOST_SOURCES * MOST_GATES)
-        lengths = (PLANE_BYTES, PLANE_BYTES, 8 * pixels, pixels, pixels, 8 * ROW_NUMBERS * MOST_ROWS)
+        lengths = (PLANE_BYTES, PLANE_BYTES, 8 * pixels, pixels, 8 * ROW_NUMBERS * MOST_ROWS)
         unknown = set(buffers) - {name for name, _ in _ORDER}
         if unknown:
             raise TypeError(f"no such buffer: {', '.join(sorted(unknown))}")
@@ -586,17 +586,17 @@ class Panel:
             slices.append(_Slice(letter, bytearray(length) if owner is None else owner, name))
         _apart(slices)
         self._slices = slices
-        self._six = [part for one in slices for part in one.lent]
+        self._five = [part for one in slices for part in one.lent]
         self._lock = threading.Lock()
         data = (c_uint8 * len(file)).from_buffer_copy(file)
-        self._record = _held(_library.jollanqe_make(data, len(file), *self._six)).chip
+        self._record = _held(_library.jollanqe_make(data, len(file), *self._five)).chip
 
     # -- the calls --
 
     def _call(self, name, *arguments):
-        """A call that is lent the six buffers. The record that comes back is kept, refused or not."""
+        """A call that is lent the five buffers. The record that comes back is kept, refused or not."""
         with self._lock:
-            given = getattr(_library, name)(self._record, *arguments, *self._six)
+            given = getattr(_library, name)(self._record, *arguments, *self._five)
             self._record = given.chip
         return _held(given).answer
 
@@ -663,7 +663,7 @@ class Panel:
     def take(self):
         """Takes the stored rows of diagnostics, oldest first: tuples of time, kind, three fields."""
         with self._lock:
-            given = _held(_library.jollanqe_take(self._record, *self._slices[5].lent))
+            given = _held(_library.jollanqe_take(self._record, *self._slices[4].lent))
             self._record = given.chip
         numbers = self.rows[: ROW_NUMBERS * given.answer]
         return [tuple(numbers[at : at + ROW_NUMBERS]) for at in range(0, len(numbers), ROW_NUMBERS)]
@@ -707,9 +707,8 @@ class Panel:
     old = property(lambda self: self._slices[0].array, doc="The plane that 10 (DTM1) writes.")
     new = property(lambda self: self._slices[1].array, doc="The plane that 13 (DTM2) writes.")
     states = property(lambda self: self._slices[2].array, doc="Where each pixel stands, 0 to the full swing.")
-    numbers = property(lambda self: self._slices[3].array, doc="The table that drives each pixel, or 255.")
-    picture = property(lambda self: self._slices[4].array, doc="The greys of the last picture, from the top left.")
-    rows = property(lambda self: self._slices[5].array, doc="The stored diagnostics, five numbers a row.")
+    picture = property(lambda self: self._slices[3].array, doc="The greys of the last picture, from the top left.")
+    rows = property(lambda self: self._slices[4].array, doc="The stored diagnostics, five numbers a row.")
 
     @property
     def record(self):

@@ -9,7 +9,7 @@
 #include <stdlib.h>
 #include <string.h>
 
-enum { WIDTH = 16, HEIGHT = 6, PIXELS = WIDTH * HEIGHT, FILE_BYTES = 320, BUFFERS = 6, SWING = 28000000 };
+enum { WIDTH = 16, HEIGHT = 6, PIXELS = WIDTH * HEIGHT, FILE_BYTES = 320, BUFFERS = 5, SWING = 28000000 };
 
 static void must(bool holds, const char *what) {
     if (!holds) {
@@ -33,37 +33,35 @@ typedef struct panel {
     jollanqe_buffers lent;
 } panel;
 
-/* The lengths of the six buffers in the order in which they are lent, and the bytes of an entry. */
-static const size_t fitting[BUFFERS] = {JOLLANQE_PLANE_BYTES, JOLLANQE_PLANE_BYTES, PIXELS, PIXELS, PIXELS,
+/* The lengths of the five buffers in the order in which they are lent, and the bytes of an entry. */
+static const size_t fitting[BUFFERS] = {JOLLANQE_PLANE_BYTES, JOLLANQE_PLANE_BYTES, PIXELS, PIXELS,
                                         JOLLANQE_ROWS_LENGTH};
-static const size_t entry[BUFFERS] = {1, 1, sizeof(int64_t), 1, 1, sizeof(uint64_t)};
+static const size_t entry[BUFFERS] = {1, 1, sizeof(int64_t), 1, sizeof(uint64_t)};
 
 static jollanqe_buffers lend(const size_t length[BUFFERS]) {
     void *block[BUFFERS];
     for (int i = 0; i < BUFFERS; i++) {
         block[i] = room(length[i], entry[i]);
     }
-    return (jollanqe_buffers){block[0], length[0], block[1], length[1], block[2], length[2],
-                              block[3], length[3], block[4], length[4], block[5], length[5]};
+    return (jollanqe_buffers){block[0],  length[0], block[1],  length[1], block[2],
+                              length[2], block[3],  length[3], block[4],  length[4]};
 }
 
 static void give_up(jollanqe_buffers lent) {
     free(lent.old_plane);
     free(lent.new_plane);
     free(lent.states);
-    free(lent.numbers);
     free(lent.picture);
     free(lent.rows);
 }
 
 static jollanqe_buffers copied(jollanqe_buffers from) {
-    size_t length[BUFFERS] = {from.old_length,     from.new_length,     from.states_length,
-                              from.numbers_length, from.picture_length, from.rows_length};
+    size_t length[BUFFERS] = {from.old_length, from.new_length, from.states_length, from.picture_length,
+                              from.rows_length};
     jollanqe_buffers to = lend(length);
     memcpy(to.old_plane, from.old_plane, from.old_length);
     memcpy(to.new_plane, from.new_plane, from.new_length);
     memcpy(to.states, from.states, from.states_length * sizeof *from.states);
-    memcpy(to.numbers, from.numbers, from.numbers_length);
     memcpy(to.picture, from.picture, from.picture_length);
     memcpy(to.rows, from.rows, from.rows_length * sizeof *from.rows);
     return to;
@@ -72,7 +70,7 @@ static jollanqe_buffers copied(jollanqe_buffers from) {
 static bool same_buffers(jollanqe_buffers a, jollanqe_buffers b) {
     return memcmp(a.old_plane, b.old_plane, a.old_length) == 0 && memcmp(a.new_plane, b.new_plane, a.new_length) == 0 &&
            memcmp(a.states, b.states, a.states_length * sizeof *a.states) == 0 &&
-           memcmp(a.numbers, b.numbers, a.numbers_length) == 0 && memcmp(a.picture, b.picture, a.picture_length) == 0 &&
+           memcmp(a.picture, b.picture, a.picture_length) == 0 &&
            memcmp(a.rows, b.rows, a.rows_length * sizeof *a.rows) == 0;
 }
 
@@ -176,7 +174,7 @@ static panel refreshing(void) {
 enum { CALLS = 8, RUN = 7 };
 static const char *const call_names[CALLS] = {"command", "data", "read", "assert", "release", "advance", "rule", "run"};
 
-/* One of the calls that are lent the six buffers; an assert, and any at a late time, ends a refresh. */
+/* One of the calls that are lent the five buffers; an assert, and any at a late time, ends a refresh. */
 static jollanqe_given call(int which, jollanqe_record record, uint64_t at, uint8_t byte, jollanqe_buffers lent) {
     uint8_t event[JOLLANQE_EVENT_BYTES];
     uint16_t answer = 0;
@@ -309,7 +307,7 @@ static void lengths(void) {
             must(jollanqe_make(file, sizeof file, JOLLANQE_LENT(lent)).refused == JOLLANQE_BUFFER_LENGTH, "making");
             refused_by(JOLLANQE_BUFFER_LENGTH, p.record, lent, 5000);
             jollanqe_given taken = jollanqe_take(p.record, lent.rows, lent.rows_length);
-            must(taken.refused == (which == 5 ? JOLLANQE_BUFFER_LENGTH : 0), "a taking tests the rows alone");
+            must(taken.refused == (which == 4 ? JOLLANQE_BUFFER_LENGTH : 0), "a taking tests the rows alone");
             jollanqe_asked bit = jollanqe_bit(p.record, lent.new_plane, lent.new_length, 0, 0);
             must(bit.refused == (which == 1 ? JOLLANQE_BUFFER_LENGTH : 0), "a bit tests its plane alone");
             give_up(lent);
@@ -342,22 +340,16 @@ static void foreign_records(void) {
 
 static void foreign_contents(void) {
     static const int64_t states[] = {-1, SWING + 1, INT64_MIN, INT64_MAX};
-    static const uint8_t numbers[] = {0, 5, 254};
     panel p = refreshing();
-    for (int i = 0; i < 7; i++) {
+    for (int i = 0; i < 4; i++) {
         jollanqe_buffers lent = copied(p.lent);
-        size_t pixel = i % 2 ? 0 : PIXELS - 1;
-        if (i < 4) {
-            lent.states[pixel] = states[i];
-        } else {
-            lent.numbers[pixel] = numbers[i - 4];
-        }
+        lent.states[i % 2 ? 0 : PIXELS - 1] = states[i];
         refused_by(JOLLANQE_FOREIGN_CONTENTS, p.record, lent, 3200);
         must(call(5, p.record, 3199, 0, lent).refused == 0, "a call that ends no refresh is taken");
         give_up(lent);
     }
     give_up(p.lent);
-    shown("a state or a table number out of range: the call that ends the refresh is refused by 7, no other");
+    shown("a state out of range: the call that ends the refresh is refused by 7, no other");
 }
 
 /* ---- pictures at tops ---- */
@@ -404,7 +396,6 @@ static void pictures_refused(void) {
         free(pictured(JOLLANQE_BUFFER_LENGTH, p, PIXELS + 1, 65535));
         *state = kept;
     }
-    memset(p.lent.numbers, 0, PIXELS);
     free(pictured(0, p, PIXELS, 65535));
     give_up(p.lent);
     shown("a picture at a top: refused by 6, 5 for either length, 7 for a state alone, no entry changed");

@@ -46,7 +46,7 @@ def refreshing(**buffers):
 
 def everything(panel):
     """All that a call may change."""
-    buffers = (panel.old, panel.new, panel.states, panel.numbers, panel.picture, panel.rows)
+    buffers = (panel.old, panel.new, panel.states, panel.picture, panel.rows)
     return [bytes(panel.record)] + [bytes(buffer) for buffer in buffers]
 
 
@@ -309,7 +309,7 @@ class Refusals(unittest.TestCase):
             self.refused(number, lambda: Panel(replace(SMALL, **change)))
 
     def test_short_and_long_buffers_5(self):
-        lengths = {"old": 60_000, "new": 60_000, "states": 64, "numbers": 8, "picture": 8, "rows": 40_960}
+        lengths = {"old": 60_000, "new": 60_000, "states": 64, "picture": 8, "rows": 40_960}
         for name, length in lengths.items():
             entry = 8 if name in ("states", "rows") else 1
             for wrong in (0, length - entry, length + entry):
@@ -338,9 +338,9 @@ class Refusals(unittest.TestCase):
                 self.refused(6, question)
 
     def test_foreign_contents_7(self):
-        for name, wrong in [("states", -1), ("states", SWING + 1), ("numbers", 0), ("numbers", 254)]:
+        for wrong in (-1, SWING + 1):
             panel = refreshing()
-            getattr(panel, name)[7] = wrong
+            panel.states[7] = wrong
             panel.advance(3_099)
             self.each_refused(7, panel)
 
@@ -358,7 +358,6 @@ class Refusals(unittest.TestCase):
             self.assertEqual(list(wide), [7] * 8)
             self.refused(5, lambda: panel.picture_at(65_535, array.array("H", [7] * 9)))
         panel = refreshing()
-        panel.numbers[0] = 9
         self.assertEqual(panel.picture_at(65_535), [0] * 8)
         record = panel.record
         record.panel.sources = 16
@@ -455,8 +454,7 @@ class Seen(unittest.TestCase):
             "old": bytearray(60_000),
             "new": memoryview(bytearray(60_000)),
             "states": array.array("q", bytes(64)),
-            "numbers": (ctypes.c_uint8 * 8)(),
-            "picture": array.array("B", bytes(8)),
+            "picture": (ctypes.c_uint8 * 8)(),
             "rows": (ctypes.c_uint64 * 5_120)(),
         }
         panel = refreshing(**buffers)

@@ -1,20 +1,37 @@
 // A call arrives: the clock, and the end of what runs.
 ghost use mathlib.Core.Path.{_≡_};
-ghost use Rattle.arriving.specs.InnerSteps as steps;
 ghost use mathlib.Core.Bool.{true, false};
-ghost use mathlib.Core.List.{List};
-ghost use Prim.Native.Nat.{ℕ};
-ghost use Rattle.controller.specs.Setters.{withOperation, withPowered};
-ghost use Rattle.controller.specs.TurnedBack.{refreshRuns, endsRefresh};
+ghost use Rattle.arriving.specs.InnerSteps as steps;
+ghost use Rattle.controller.specs.Setters.{withImage, withOperation, withPowered};
 ghost use Rattle.controller.specs.Arrives as arrives;
-ghost use Rattle.controller.specs.Lent.{kept, Turns};
-use crate::refreshes::finish_whole;
+ghost use Rattle.controller.specs.Refresh as rule;
 use base::greatest;
+use base::saturating_add;
 use controller::Mode;
 use controller::Power;
 use controller::Uc8253;
 use controller::Work;
+use glass::PanelImage;
+use glass::RefreshKind;
 use rules::rested;
+
+// The head of the next picture.
+pub(crate) fn publish(p: Uc8253, kind: RefreshKind, interrupted: bool, at: u64) -> Uc8253
+    ensures { λ r. ⌜ r ≡ withImage (rule.published kind interrupted at p) p ⌝ }
+{
+    let image = PanelImage {
+        width: p.config.panel.sources,
+        height: p.config.panel.gates,
+        generation: saturating_add(p.image.generation, 1),
+        kind,
+        interrupted,
+        started: p.operation.started,
+        at,
+    };
+    let mut q = p;
+    q.image = image;
+    q
+}
 
 fn powered(p: Uc8253, on: bool) -> Uc8253
     ensures { λ r. ⌜ r ≡ withOperation arrives.rest (withPowered on p) ⌝ }
@@ -38,17 +55,9 @@ fn fall_asleep(p: Uc8253) -> Uc8253
     rested(q)
 }
 
-// What runs ends.
-fn end(
-    p: Uc8253,
-    old: &mut [u8],
-    new: &[u8],
-    states: &mut [i64],
-    numbers: &[u8],
-    picture: &mut [u8],
-) -> Uc8253
-    requires { ⌜ steps.SwingFits p × (refreshRuns (p .operation .work) ≡ true → steps.StatesFit p states) ⌝ }
-    ensures { λ r. ⌜ ((rows : List ℕ) → Turns (arrives.endedBy (p .operation .work)) p r old new states numbers picture (kept rows)) ⌝ }
+// What runs ends. A refresh publishes its picture, dated by its own end.
+fn end(p: Uc8253) -> Uc8253
+    ensures { λ r. ⌜ r ≡ arrives.endedBy (p .operation .work) p ⌝ }
 {
     let operation = p.operation;
     let work = operation.work;
@@ -60,29 +69,21 @@ fn end(
         Work::SoftReset => rested(p),
         Work::HardwareReset => rested(p),
         Work::Refresh(refresh) => {
-            let q = finish_whole(p, refresh, old, new, states, numbers, picture);
+            let kind = refresh.kind;
+            let q = publish(p, kind, false, p.operation.until);
             rested(q)
         }
     }
 }
 
 // The clock becomes the larger of itself and the time given; what has come to its end then ends.
-pub(crate) fn arrive(
-    p: Uc8253,
-    at: u64,
-    old: &mut [u8],
-    new: &[u8],
-    states: &mut [i64],
-    numbers: &[u8],
-    picture: &mut [u8],
-) -> Uc8253
-    requires { ⌜ steps.SwingFits p × (endsRefresh false at p ≡ true → steps.StatesFit p states) ⌝ }
-    ensures { λ r. ⌜ ((rows : List ℕ) → Turns (arrives.arrived at) p r old new states numbers picture (kept rows)) ⌝ }
+pub fn arrive(p: Uc8253, at: u64) -> Uc8253
+    ensures { λ r. ⌜ r ≡ arrives.arrived at p ⌝ }
 {
     let mut q = p;
     q.now = greatest(p.now, at);
     if q.operation.until <= q.now {
-        return end(q, old, new, states, numbers, picture);
+        return end(q);
     }
     q
 }

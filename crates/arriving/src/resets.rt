@@ -1,16 +1,14 @@
 // The reset line.
 ghost use mathlib.Core.Path.{_≡_};
 ghost use Rattle.arriving.specs.InnerSteps as steps;
-ghost use mathlib.Core.Bool.{true};
-ghost use mathlib.Core.List.{List};
-ghost use Prim.Native.Nat.{ℕ};
-ghost use Rattle.controller.specs.TurnedBack.{refreshRuns, cuts};
 ghost use Rattle.controller.specs.Reset as rule;
-ghost use Rattle.controller.specs.Lent.{kept, Turns};
 ghost use Rattle.controller.specs.Counting.{own};
-use crate::refreshes::finish_cut;
+ghost use Rattle.controller.specs.Tell.{silent};
+use crate::ends::publish;
 use controller::Current;
 use controller::Mode;
+use controller::Note;
+use controller::Notes;
 use controller::Operation;
 use controller::Power;
 use controller::Stage;
@@ -19,20 +17,12 @@ use controller::Work;
 use diagnostic::DiagnosticKind;
 use registers::Luts;
 use registers::Registers;
-use rules::close;
+use rules::close_note;
 use rules::start;
-use rules::tell;
 
-// In mid-refresh the glass keeps what it had reached.
-fn cut(
-    p: Uc8253,
-    states: &mut [i64],
-    numbers: &[u8],
-    picture: &mut [u8],
-    rows: &mut [u64],
-) -> Uc8253
-    requires { ⌜ steps.SwingFits p × (refreshRuns (p .operation .work) ≡ true → steps.StatesFit p states) ⌝ }
-    ensures { λ r. ⌜ ((old new : List ℕ) → Turns (rule.cut own) p r (kept old) (kept new) states numbers picture rows) ⌝ }
+// A refresh that is cut publishes its picture, dated by the clock.
+fn cut(p: Uc8253) -> Uc8253
+    ensures { λ r. ⌜ r ≡ rule.cutBy (p .operation .work) p ⌝ }
 {
     let operation = p.operation;
     let work = operation.work;
@@ -44,8 +34,8 @@ fn cut(
         Work::SoftReset => p,
         Work::HardwareReset => p,
         Work::Refresh(refresh) => {
-            let q = tell(p, rows, DiagnosticKind::ResetDuringRefresh);
-            finish_cut(q, refresh, states, numbers, picture)
+            let kind = refresh.kind;
+            publish(p, kind, true, p.now)
         }
     }
 }
@@ -80,19 +70,11 @@ fn clear(p: Uc8253) -> Uc8253
 }
 
 // Out of reset, `RST_N` goes low.
-fn fall(
-    p: Uc8253,
-    states: &mut [i64],
-    numbers: &[u8],
-    picture: &mut [u8],
-    rows: &mut [u64],
-) -> Uc8253
-    requires { ⌜ steps.SwingFits p × (refreshRuns (p .operation .work) ≡ true → steps.StatesFit p states) ⌝ }
-    ensures { λ r. ⌜ ((old new : List ℕ) → Turns steps.fallen p r (kept old) (kept new) states numbers picture rows) ⌝ }
+fn fall(p: Uc8253) -> Uc8253
+    ensures { λ r. ⌜ r ≡ steps.fallen p ⌝ }
 {
-    let q = cut(p, states, numbers, picture, rows);
-    let r = close(q, rows);
-    clear(r)
+    let q = cut(p);
+    clear(q)
 }
 
 // Release starts the hardware reset.
@@ -111,30 +93,21 @@ fn rise(p: Uc8253) -> Uc8253
 }
 
 // `RST_N` went low or was released.
-pub(crate) fn reset_edge(
-    p: Uc8253,
-    asserted: bool,
-    states: &mut [i64],
-    numbers: &[u8],
-    picture: &mut [u8],
-    rows: &mut [u64],
-) -> Uc8253
-    requires { ⌜ steps.SwingFits p × (refreshRuns (p .operation .work) ≡ true
-        → cuts (p .mode .power) asserted ≡ true → steps.StatesFit p states) ⌝ }
-    ensures { λ r. ⌜ ((old new : List ℕ) → Turns (rule.resetEdge own asserted) p r (kept old) (kept new) states numbers picture rows) ⌝ }
+pub fn reset_edge(p: Uc8253, asserted: bool) -> Uc8253
+    ensures { λ r. ⌜ r ≡ rule.resetEdge own asserted p ⌝ }
 {
     let mode = p.mode;
     let power = mode.power;
     match power {
         Power::Running => {
             if asserted {
-                return fall(p, states, numbers, picture, rows);
+                return fall(p);
             }
             p
         }
         Power::Asleep => {
             if asserted {
-                return fall(p, states, numbers, picture, rows);
+                return fall(p);
             }
             p
         }
@@ -144,5 +117,57 @@ pub(crate) fn reset_edge(
             }
             rise(p)
         }
+    }
+}
+
+fn cut_note(operation: Operation) -> Note
+    ensures { λ r. ⌜ r ≡ rule.cutNote (operation .work) ⌝ }
+{
+    let work = operation.work;
+    match work {
+        Work::Nothing => Note::Quiet,
+        Work::PowerOn => Note::Quiet,
+        Work::PowerOff => Note::Quiet,
+        Work::DeepSleep => Note::Quiet,
+        Work::SoftReset => Note::Quiet,
+        Work::HardwareReset => Note::Quiet,
+        Work::Refresh(_) => Note::Told(DiagnosticKind::ResetDuringRefresh),
+    }
+}
+
+fn silence() -> Notes
+    ensures { λ r. ⌜ r ≡ silent ⌝ }
+{
+    Notes {
+        first: Note::Quiet,
+        second: Note::Quiet,
+    }
+}
+
+// In mid-refresh kind 15; then the command under way closes.
+fn fall_notes(p: Uc8253) -> Notes
+    ensures { λ r. ⌜ r ≡ steps.fallenNotes p ⌝ }
+{
+    let operation = p.operation;
+    let stage = p.stage;
+    Notes {
+        first: cut_note(operation),
+        second: close_note(stage),
+    }
+}
+
+// What an edge of the reset line tells.
+pub fn edge_notes(p: Uc8253, asserted: bool) -> Notes
+    ensures { λ r. ⌜ r ≡ rule.edgeNotes asserted p ⌝ }
+{
+    if !asserted {
+        return silence();
+    }
+    let mode = p.mode;
+    let power = mode.power;
+    match power {
+        Power::Running => fall_notes(p),
+        Power::Asleep => fall_notes(p),
+        Power::InReset => silence(),
     }
 }

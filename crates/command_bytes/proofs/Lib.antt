@@ -1,2 +1,1 @@
 pub mod Executed
-pub mod Starting

@@ -1,14 +1,10 @@
-// What a command byte does once its call has arrived: the command under way closes, and the new one is
-// dropped, begun or executed. It asks nothing of the record or of what is lent.
+// What a command byte does to the record once its call has arrived, and what it tells: it is dropped, begun
+// or executed. It asks nothing of the record.
 mod starts;
 
 ghost use mathlib.Core.Path.{_≡_};
-ghost use Rattle.command_bytes.specs.InnerSteps as steps;
-ghost use mathlib.Core.List.{List};
-ghost use Prim.Native.Nat.{ℕ};
-ghost use lib.IntN.{ℤ};
+ghost use Rattle.command.specs.Kinds.{kindOf};
 ghost use Rattle.controller.specs.Command as rule;
-ghost use Rattle.controller.specs.Lent.{kept, Turns, TurnsRows};
 ghost use Rattle.controller.specs.Counting.{own};
 use command::DRF;
 use command::DSP;
@@ -28,11 +24,10 @@ use controller::Work;
 use diagnostic::DiagnosticKind;
 use ram::Cursor;
 use rules::barred;
-use rules::close;
 use rules::start;
-use rules::tell;
 use rules::with_current;
 use starts::refresh;
+use starts::refresh_told;
 
 // The command is under way, the cursor at the first column and row of the written area.
 fn begin(p: Uc8253, command: u8, kind: Kind) -> Uc8253
@@ -57,16 +52,8 @@ fn begin(p: Uc8253, command: u8, kind: Kind) -> Uc8253
 }
 
 // What a command without parameters does at once. A PON on a powered chip gives no BUSY_N pulse.
-fn execute(
-    p: Uc8253,
-    command: u8,
-    old: &[u8],
-    new: &[u8],
-    table_numbers: &mut [u8],
-    rows: &mut [u64],
-) -> Uc8253
-    ensures { λ r. ⌜ ((states : List ℤ) (picture : List ℕ)
-        → Turns (rule.executed own command) p r old new (kept states) «table_numbers» (kept picture) rows) ⌝ }
+fn execute(p: Uc8253, command: u8) -> Uc8253
+    ensures { λ r. ⌜ r ≡ rule.executed own command p ⌝ }
 {
     let mut q = p;
     match command {
@@ -82,7 +69,7 @@ fn execute(
             }
             p
         }
-        DRF => refresh(p, old, new, table_numbers, rows),
+        DRF => refresh(p),
         PTIN => {
             q.regs.partial = true;
             q
@@ -104,76 +91,68 @@ fn execute(
 }
 
 // A command that is not dropped.
-fn accept(
-    p: Uc8253,
-    command: u8,
-    old: &[u8],
-    new: &[u8],
-    table_numbers: &mut [u8],
-    rows: &mut [u64],
-) -> Uc8253
-    ensures { λ r. ⌜ ((states : List ℤ) (picture : List ℕ)
-        → Turns (steps.accepted command) p r old new (kept states) «table_numbers» (kept picture) rows) ⌝ }
+fn accept(p: Uc8253, command: u8) -> Uc8253
+    ensures { λ r. ⌜ r ≡ rule.sortedBy own (kindOf command (p .config .variant)) command p ⌝ }
 {
     let config = p.config;
     let variant = config.variant;
     let sort = kind(command, variant);
     match sort {
-        Kind::Unknown => {
-            let q = tell(p, rows, DiagnosticKind::UnknownCommand { command });
-            with_current(q, Current::Ignoring)
-        }
-        Kind::Unsupported(params) => {
-            let q = tell(p, rows, DiagnosticKind::UnsupportedCommand { command });
-            begin(q, command, Kind::Unsupported(params))
-        }
+        Kind::Unknown => with_current(p, Current::Ignoring),
+        Kind::Unsupported(params) => begin(p, command, Kind::Unsupported(params)),
         Kind::Write(params) => {
             let q = begin(p, command, Kind::Write(params));
-            execute(q, command, old, new, table_numbers, rows)
+            execute(q, command)
         }
         Kind::Read => {
             let q = begin(p, command, Kind::Read);
-            execute(q, command, old, new, table_numbers, rows)
+            execute(q, command)
         }
     }
 }
 
-// A command that may be dropped.
-fn pass(
-    p: Uc8253,
-    command: u8,
-    old: &[u8],
-    new: &[u8],
-    table_numbers: &mut [u8],
-    rows: &mut [u64],
-) -> Uc8253
-    ensures { λ r. ⌜ ((states : List ℤ) (picture : List ℕ)
-        → Turns (rule.passed own command) p r old new (kept states) «table_numbers» (kept picture) rows) ⌝ }
+// The record after a command byte.
+pub fn command_byte(p: Uc8253, command: u8) -> Uc8253
+    ensures { λ r. ⌜ r ≡ rule.commandByte own command p ⌝ }
 {
     let mode = p.mode;
     let operation = p.operation;
     let note = barred(mode, operation, command);
     match note {
-        Note::Quiet => accept(p, command, old, new, table_numbers, rows),
-        Note::Told(kind) => {
-            let q = tell(p, rows, kind);
-            with_current(q, Current::Ignoring)
-        }
+        Note::Quiet => accept(p, command),
+        Note::Told(_) => with_current(p, Current::Ignoring),
     }
 }
 
-// The previous command closes, then the byte is sorted.
-pub fn command_byte(
-    p: Uc8253,
-    command: u8,
-    old: &[u8],
-    new: &[u8],
-    table_numbers: &mut [u8],
-    rows: &mut [u64],
-) -> Uc8253
-    ensures { λ r. ⌜ ((states : List ℤ) (picture : List ℕ)
-        → Turns (rule.commandByte own command) p r old new (kept states) «table_numbers» (kept picture) rows) ⌝ }
+// What a command that is not dropped tells.
+fn accept_note(p: Uc8253, command: u8) -> Note
+    ensures { λ r. ⌜ r ≡ rule.sortNote (kindOf command (p .config .variant)) command p ⌝ }
 {
-    let q = close(p, rows);
-    pass(q, command, old, new, table_numbers, rows)
+    let config = p.config;
+    let variant = config.variant;
+    let sort = kind(command, variant);
+    match sort {
+        Kind::Unknown => Note::Told(DiagnosticKind::UnknownCommand { command }),
+        Kind::Unsupported(_) => Note::Told(DiagnosticKind::UnsupportedCommand { command }),
+        Kind::Write(_) => {
+            if command == DRF {
+                return refresh_told(p);
+            }
+            Note::Quiet
+        }
+        Kind::Read => Note::Quiet,
+    }
+}
+
+// What a command byte tells, beside what closes before it.
+pub fn command_note(p: Uc8253, command: u8) -> Note
+    ensures { λ r. ⌜ r ≡ rule.commandNote command p ⌝ }
+{
+    let mode = p.mode;
+    let operation = p.operation;
+    let note = barred(mode, operation, command);
+    match note {
+        Note::Quiet => accept_note(p, command),
+        Note::Told(kind) => Note::Told(kind),
+    }
 }

@@ -1,10 +1,7 @@
-// The start of a refresh: the waveform that the registers give, and each pixel's table.
+// The start of a refresh: the waveform that the registers give, and whether a pixel is left alone.
 ghost use mathlib.Core.Path.{_≡_};
-ghost use mathlib.Core.List.{List};
-ghost use Prim.Native.Nat.{ℕ};
-ghost use lib.IntN.{ℤ};
+ghost use lib.ListN.{getD};
 ghost use Rattle.controller.specs.Refresh as rule;
-ghost use Rattle.controller.specs.Lent.{kept, Turns};
 ghost use Rattle.controller.specs.Counting.{own};
 use base::saturating_add;
 use clock::cycles;
@@ -15,10 +12,8 @@ use controller::Uc8253;
 use controller::Work;
 use glass::RefreshKind;
 use numbers::Mapping;
-use numbers::numbers;
-use numbers::some_undriven;
+use numbers::some_outside;
 use rules::refresh_note;
-use rules::tell;
 use waveform::Levels;
 use waveform::Waveform;
 
@@ -44,29 +39,28 @@ fn waveform_now(p: Uc8253) -> Waveform
     )
 }
 
-fn kind_by(numbers: &[u8]) -> RefreshKind
-    ensures { λ r. ⌜ r ≡ rule.kindBy (now (numbers .entry)) ⌝ }
+fn kind_now(p: Uc8253) -> RefreshKind
+    ensures { λ r. ⌜ r ≡ rule.kindNow p ⌝ }
 {
-    if some_undriven(numbers) {
+    let config = p.config;
+    let panel = config.panel;
+    let variant = config.variant;
+    let regs = p.regs;
+    let pixels = Mapping::of(panel, regs, variant);
+    if some_outside(pixels) {
         return RefreshKind::Partial;
     }
     RefreshKind::Full
 }
 
-// The refresh starts: each pixel gets the table of its transition.
-fn start_refresh(p: Uc8253, old: &[u8], new: &[u8], table_numbers: &mut [u8]) -> Uc8253
-    ensures { λ r. ⌜ ((states : List ℤ) (picture rows : List ℕ)
-        → Turns (rule.refreshStarted own) p r old new (kept states) «table_numbers» (kept picture) (kept rows)) ⌝ }
+// The refresh starts.
+fn start_refresh(p: Uc8253) -> Uc8253
+    ensures { λ r. ⌜ r ≡ rule.refreshStarted own p ⌝ }
 {
     let waveform = waveform_now(p);
-    let config = p.config;
-    let panel = config.panel;
-    let variant = config.variant;
     let regs = p.regs;
     let area = regs.written();
-    let pixels = Mapping::of(panel, regs, variant);
-    numbers(table_numbers, old, new, pixels);
-    let kind = kind_by(table_numbers);
+    let kind = kind_now(p);
     let refresh = Refresh { area, kind };
     let operation = Operation {
         work: Work::Refresh(refresh),
@@ -79,22 +73,22 @@ fn start_refresh(p: Uc8253, old: &[u8], new: &[u8], table_numbers: &mut [u8]) ->
     q
 }
 
-// `DRF`: the refresh starts, or is refused.
-pub(crate) fn refresh(
-    p: Uc8253,
-    old: &[u8],
-    new: &[u8],
-    table_numbers: &mut [u8],
-    rows: &mut [u64],
-) -> Uc8253
-    ensures { λ r. ⌜ ((states : List ℤ) (picture : List ℕ)
-        → Turns (rule.refreshed own) p r old new (kept states) «table_numbers» (kept picture) rows) ⌝ }
+// What refuses a refresh, if anything does.
+pub(crate) fn refresh_told(p: Uc8253) -> Note
+    ensures { λ r. ⌜ r ≡ rule.refreshNote (getD (p .regs .psr) 0 0) (p .mode .powered) ⌝ }
 {
     let regs = p.regs;
     let psr = regs.psr;
-    let note = refresh_note(psr[0], p.mode.powered);
+    refresh_note(psr[0], p.mode.powered)
+}
+
+// `DRF`: the refresh starts, or is refused.
+pub(crate) fn refresh(p: Uc8253) -> Uc8253
+    ensures { λ r. ⌜ r ≡ rule.refreshed own p ⌝ }
+{
+    let note = refresh_told(p);
     match note {
-        Note::Quiet => start_refresh(p, old, new, table_numbers),
-        Note::Told(kind) => tell(p, rows, kind),
+        Note::Quiet => start_refresh(p),
+        Note::Told(_) => p,
     }
 }

@@ -1,9 +1,9 @@
--- A refresh's start and its end leave a sound record sound: its numbers are table numbers, its period is not 0,
--- its levels are at most 15,000, and the states stay in 0 .. full swing.
+-- A refresh's start and its end leave a sound record sound: its period is not 0, its levels are at most 15,000; the states stay in
+-- 0 .. full swing. Each pixel's number is a table's, or 255.
 use mathlib.Core.Path.{_≡_, refl, sym, subst, _∙_}
-use mathlib.Core.Bool.{Bool, true, false, _&&_}
-use mathlib.Core.List.{List}
-use Prim.Native.Nat.{ℕ, _+_, _*_, _/_, _%_, _≤_, _<_}
+use mathlib.Core.Bool.{Bool, true, false, _&&_, false≢true}
+use mathlib.Core.List.{List, [], _∷_, _++_}
+use Prim.Native.Nat.{ℕ, zero, suc, _+_, _*_, _/_, _%_, _≤_, _<_}
 use native.Mathlib.Nat.{mod-lt, div-add-mod', div-lt-iff-lt-mul, mul-comm}
 use native.Mathlib.Omega.{arith}
 use native.Mathlib.Decide.{decLe}
@@ -12,41 +12,37 @@ use lib.IntN.{ℤ, pos}
 use lib.ListN.{length, getD, take}
 use borrow.Author.Tests.{ne-eqb, le-ltb}
 use Rattle.base.specs.Integer.{up}
-use Rattle.base.proofs.Cases.{both}
+use Rattle.base.specs.InTurn.{inTurn}
+use Rattle.base.specs.Listed.{listed}
+use Rattle.base.proofs.Cases.{by-cases, both}
 use Rattle.config.proofs.RefusalLaws.{accepted}
 use Rattle.registers.specs.Area.{inside}
-use Rattle.registers.specs.Flags.{copiesNewToOld}
 use Rattle.registers.specs.Written.{writtenOf}
 use Rattle.registers.proofs.RangeLaws.{written-in-range}
-use Rattle.ram.specs.Copy.{copied}
 use Rattle.ram.specs.Plane.{bitAt}
-use Rattle.ram.proofs.CopyLaws.{length-copied}
 use Rattle.numbers.specs.declared.Mapping.{Mapping}
-use Rattle.numbers.specs.Filled.{rowsFilled}
-use Rattle.numbers.specs.Number.{mappingOf, numberOf, transitionOf, shownAt}
-use Rattle.numbers.proofs.FilledLaws.{length-rows, rows-at}
+use Rattle.numbers.specs.Number.{mappingOf, numberOf, transitionOf, shownAt, panelNumbers}
+use Rattle.numbers.proofs.PanelLaws.{panel-length, panel-at}
 use Rattle.waveform.specs.Levels.{levelsOf}
 use Rattle.glass.specs.Walk.{walk}
-use Rattle.glass.specs.declared.RefreshKind.{RefreshKind}
 use Rattle.glass.proofs.WalkLaws.{walk-within}
 use Rattle.pixels.specs.Drive.{framesFor}
-use Rattle.pixels.specs.Draw.{drawn}
+use Rattle.pixels.specs.Lists.{every}
 use Rattle.pixels.specs.States.{everyState, StateInRange, isNumber, everyNumber}
 use Rattle.pixels.proofs.ListLaws.{beside-length, beside-at, beside-past}
-use Rattle.pixels.proofs.StateLaws.{states-in-range, in-range-states, table-number, undriven-number, known-numbers}
+use Rattle.pixels.proofs.StateLaws.{states-in-range, in-range-states, table-number, undriven-number}
 use Rattle.pixels.proofs.DrawLaws.{drawn-length}
-use Rattle.controller.specs.declared.Refresh.{Refresh}
+use Rattle.controller.specs.declared.Uc8253.{Uc8253}
+use Rattle.controller.specs.declared.drives.Drive.{Drive}
+use Rattle.controller.specs.declared.drives.Drive.the-variants as drive
 use Rattle.controller.specs.declared.notes.Note.{Note}
 use Rattle.controller.specs.declared.notes.Note.the-variants.{Quiet, Told}
-use Rattle.controller.specs.World.{World, world}
-use Rattle.controller.specs.Setters.{withStates}
 use Rattle.controller.specs.TurnedBack.{badLevels}
-use Rattle.controller.specs.Refresh.{refreshNote, waveformNow, numbersNow, refreshing, refreshStarted, refreshedBy, refreshed}
-use Rattle.controller.specs.Refresh.{walked, published, finished, allFrames, elapsed, copiedAfter, endedRefresh, cutRefresh}
-use Rattle.controller.specs.Sound.{Sound}
+use Rattle.controller.specs.Refresh.{refreshNote, waveformNow, mappingNow, refreshing, refreshStarted, refreshedBy, refreshed, allFrames}
+use Rattle.controller.specs.Glass.{numbersNow, walked, statesBy, pictureBy}
+use Rattle.controller.specs.Sound.{SoundChip}
 use Rattle.controller.specs.Counting.{own}
-use Rattle.controller.proofs.Parts.{lent-lengths, fitting, sound-image, sound-old}
-use Rattle.controller.proofs.Parts.{sound-states, sound-picture, sound-tell, good-area}
+use Rattle.controller.proofs.Parts.{good-area}
 
 -- ---- the states stay in range
 module _ (swing : ℕ) (frames : ℕ → List ℤ) (numbers : List ℕ) (states : List ℤ) where
@@ -76,37 +72,29 @@ module _ (swing : ℕ) (frames : ℕ → List ℤ) (numbers : List ℕ) (states 
   walked-states e =
       in-range-states swing (walked swing frames numbers states) (λ i h. walked-at e i (subst (λ (n : ℕ). i < n) walked-length h))
 
--- ---- a refresh's end
-pub sound-finished : (frames : ℕ → List ℤ) (k : RefreshKind) (interrupted : Bool) (at : ℕ) (w : World) → Sound w
-    → Sound (finished frames k interrupted at w)
-unfolding finished
-sound-finished frames k interrupted at w s =
-    let swing = w .chip .config .optics .«full_swing» in
-    let states = walked swing frames (w .lent .numbers) (w .lent .states) in
-    let v : World = world (w .chip) (withStates states (w .lent)) in
-    sound-image (published k interrupted at (w .chip)) _
-    (sound-picture (drawn swing states (w .lent .picture)) v (drawn-length swing states (w .lent .picture))
-    (sound-states states w (walked-length swing frames (w .lent .numbers) (w .lent .states))
-    (walked-states swing frames (w .lent .numbers) (w .lent .states) (s .states)) s))
+-- ---- what a call does to the glass
+module _ (p : Uc8253) (old new : List ℕ) where
+  pub states-length : (d : Drive) (states : List ℤ) → length (statesBy d p old new states) ≡ length states
+  states-length drive.Nothing states = refl
+  states-length drive.Whole states = walked-length (p .config .optics .«full_swing») (allFrames p) (numbersNow p old new) states
+  states-length (drive.First n) states =
+      walked-length (p .config .optics .«full_swing») (λ k. take n (allFrames p k)) (numbersNow p old new) states
 
-sound-copied : (r : Refresh) (w : World) → Sound w → Sound (copiedAfter r w)
-unfolding copiedAfter
-sound-copied r w s =
-    both Sound (copiesNewToOld (w .chip .config .variant) (w .chip .regs))
-    (sound-old (copied (w .lent .old) (w .lent .new) (r .area)) w (length-copied (w .lent .old) (w .lent .new) (r .area)) s)
-    s
+  pub states-sound : (d : Drive) (states : List ℤ) → everyState (p .config .optics .«full_swing») states ≡ true
+      → everyState (p .config .optics .«full_swing») (statesBy d p old new states) ≡ true
+  states-sound drive.Nothing states e = e
+  states-sound drive.Whole states e = walked-states (p .config .optics .«full_swing») (allFrames p) (numbersNow p old new) states e
+  states-sound (drive.First n) states e =
+      walked-states (p .config .optics .«full_swing») (λ k. take n (allFrames p k)) (numbersNow p old new) states e
 
-pub sound-ended-refresh : (r : Refresh) (w : World) → Sound w → Sound (endedRefresh r w)
-unfolding endedRefresh
-sound-ended-refresh r w s = sound-copied r _ (sound-finished (allFrames (w .chip)) (r .kind) false (w .chip .operation .until) w s)
+pub picture-length : (d : Drive) (p : Uc8253) (states : List ℤ) (picture : List ℕ) → length (pictureBy d p states picture) ≡ length picture
+picture-length drive.Nothing p states picture = refl
+picture-length drive.Whole p states picture = drawn-length (p .config .optics .«full_swing») states picture
+picture-length (drive.First n) p states picture = drawn-length (p .config .optics .«full_swing») states picture
 
-pub sound-cut-refresh : (r : Refresh) (w : World) → Sound w → Sound (cutRefresh own r w)
-unfolding cutRefresh
-sound-cut-refresh r w s = sound-finished (λ k. take (elapsed own (w .chip)) (allFrames (w .chip) k)) (r .kind) true (w .chip .now) w s
-
--- ---- a refresh's start: each number is a table's, or 255
-record Known (n : ℕ) : Type 0 where
-  ok : isNumber n ≡ true
+-- ---- each number is a table's, or 255
+pub record Known (n : ℕ) : Type 0 where
+  pub ok : isNumber n ≡ true
 
 table : (n : ℕ) → 1 ≤ n → n ≤ 4 → Known n
 table n h k = record { ok = table-number n h k }
@@ -117,7 +105,7 @@ table-known old new =
     both Known old (both Known new (table 1 (omega arith) (omega arith)) (table 3 (omega arith) (omega arith)))
     (both Known new (table 2 (omega arith) (omega arith)) (table 4 (omega arith) (omega arith)))
 
-number-known : (q : Mapping) (old new : List ℕ) (x y : ℕ) → Known (numberOf q old new x y)
+pub number-known : (q : Mapping) (old new : List ℕ) (x y : ℕ) → Known (numberOf q old new x y)
 unfolding numberOf
 number-known q old new x y =
     let c = shownAt (q .columns) (q .active .x0) (q .active .x1) x in
@@ -126,36 +114,46 @@ number-known q old new x y =
     (table-known (eqb (bitAt old c r) (q .white)) (eqb (bitAt new c r) (q .white)))
     (record { ok = undriven-number })
 
-numbers-length : (w : World) → Sound w
-    → length (numbersNow (w .chip) (w .lent)) ≡ w .chip .config .panel .sources * w .chip .config .panel .gates
-unfolding numbersNow
-numbers-length w s =
-    length-rows _ (w .chip .config .panel .sources) (w .chip .config .panel .gates) (w .lent .numbers) ∙ lent-lengths w s .numbers
+-- lists of which each entry passes a test
+module _ {A : Type 0} (t : A → Bool) where
+  every-on : (l m : List A) → every t l ≡ true → every t m ≡ true → every t (l ++ m) ≡ true
+  every-on [] m e f = f
+  every-on (x ∷ l) m e f =
+      by-cases (t x) (λ y. rw y (every-on l m (rw y at e) f)) (λ n. absurd (false≢true (rw n at e)))
+
+  every-listed : (n : ℕ) (f : ℕ → A) → ((k : ℕ) → t (f k) ≡ true) → every t (listed n f) ≡ true
+  every-listed zero f h = refl
+  every-listed (suc n) f h = every-on (listed n f) (f n ∷ []) (every-listed n f h) (rw (h n))
+
+  every-in-turn : (n : ℕ) (f : ℕ → List A) → ((k : ℕ) → every t (f k) ≡ true) → every t (inTurn n f) ≡ true
+  every-in-turn zero f h = refl
+  every-in-turn (suc n) f h = every-on (inTurn n f) (f n) (every-in-turn n f h) (h n)
 
 -- the number of each pixel, row by row
-pub noted : (w : World) → Sound w → (p : ℕ) → p < w .chip .config .panel .sources * w .chip .config .panel .gates
-    → getD (numbersNow (w .chip) (w .lent)) p 255
-    ≡ numberOf (mappingOf (w .chip .config .panel) (w .chip .regs) (w .chip .config .variant)) (w .lent .old) (w .lent .new)
-    (p % w .chip .config .panel .sources) (p / w .chip .config .panel .sources)
-unfolding numbersNow
-noted w s p h =
-    let n = w .chip .config .panel .sources in
-    let m = w .chip .config .panel .gates in
-    let f = numberOf (mappingOf (w .chip .config .panel) (w .chip .regs) (w .chip .config .variant)) (w .lent .old) (w .lent .new) in
-    let some : 0 < n = accepted (w .chip .config) (s .config) .sources-least in
-    let row : p / n < m = div-lt-iff-lt-mul {k = n} {x = p} {y = m} some .1 (omega (arith, mul-comm n m)) in
-    subst (λ (i : ℕ). getD (rowsFilled f n m (w .lent .numbers)) i 255 ≡ f (p % n) (p / n)) (div-add-mod' p n)
-    (rows-at f n m (w .lent .numbers) (p % n) (p / n) 255 (mod-lt p some) row (omega (arith, lent-lengths w s .numbers, mul-comm n m)))
+module _ (p : Uc8253) (old new : List ℕ) where
+  pub numbers-length : length (numbersNow p old new) ≡ p .config .panel .sources * p .config .panel .gates
+  unfolding numbersNow mappingOf
+  numbers-length = panel-length (mappingNow p) old new ∙ mul-comm (p .config .panel .gates) (p .config .panel .sources)
 
-numbers-known : (w : World) → Sound w → everyNumber (numbersNow (w .chip) (w .lent)) ≡ true
-numbers-known w s =
-    known-numbers (numbersNow (w .chip) (w .lent))
-    (λ i h.
-    let n = w .chip .config .panel .sources in
-    subst (λ (k : ℕ). isNumber k ≡ true) (sym (noted w s i (subst (λ (k : ℕ). i < k) (numbers-length w s) h)))
-    (number-known (mappingOf (w .chip .config .panel) (w .chip .regs) (w .chip .config .variant))
-    (w .lent .old) (w .lent .new) (i % n) (i / n) .ok))
+  pub number-at : SoundChip p → (d i : ℕ) → i < p .config .panel .sources * p .config .panel .gates
+      → getD (numbersNow p old new) i d
+      ≡ numberOf (mappingNow p) old new (i % p .config .panel .sources) (i / p .config .panel .sources)
+  unfolding numbersNow mappingOf
+  number-at s d i h =
+      let n = p .config .panel .sources in
+      let m = p .config .panel .gates in
+      let some : 0 < n = accepted (p .config) (s .config) .sources-least in
+      let row : i / n < m = div-lt-iff-lt-mul {k = n} {x = i} {y = m} some .1 (omega (arith, mul-comm n m)) in
+      subst (λ (k : ℕ). getD (numbersNow p old new) k d ≡ numberOf (mappingNow p) old new (i % n) (i / n)) (div-add-mod' i n)
+      (panel-at (mappingNow p) old new (i % n) (i / n) d (mod-lt i some) row)
 
+  pub numbers-known : everyNumber (numbersNow p old new) ≡ true
+  unfolding numbersNow panelNumbers
+  numbers-known =
+      every-in-turn isNumber (mappingNow p .rows .count) _
+      (λ y. every-listed isNumber (mappingNow p .columns .count) _ (λ x. number-known (mappingNow p) old new x y .ok))
+
+-- ---- a refresh's start
 -- the levels of 01 and the period of 30
 level-most : (code : ℕ) → 2400 + 200 * (code % 64) ≤ 15000
 level-most code = omega arith
@@ -169,37 +167,30 @@ good-levels power =
       le-ltb 15000 (levelsOf power .vdhr) (level-most (getD power 4 0)),
     )
 
-some-period : (w : World) → Sound w → eqb (getD (w .chip .config .timing .«frame_period») (w .chip .regs .pll % 32) 0) 0 ≡ false
-some-period w s =
-    let least = accepted (w .chip .config) (s .config) .period-least (w .chip .regs .pll % 32) (omega arith) in
-    ne-eqb (getD (w .chip .config .timing .«frame_period») (w .chip .regs .pll % 32) 0) 0 (λ e. omega arith)
+some-period : (p : Uc8253) → SoundChip p → eqb (getD (p .config .timing .«frame_period») (p .regs .pll % 32) 0) 0 ≡ false
+some-period p s =
+    let least = accepted (p .config) (s .config) .period-least (p .regs .pll % 32) (omega arith) in
+    ne-eqb (getD (p .config .timing .«frame_period») (p .regs .pll % 32) 0) 0 (λ e. omega arith)
 
-pub sound-refresh-started : (w : World) → Sound w → Sound (refreshStarted own w)
+sound-refresh-started : (p : Uc8253) → SoundChip p → SoundChip (refreshStarted own p)
 unfolding refreshStarted refreshing waveformNow
-sound-refresh-started w s =
-    let k = lent-lengths w s in
-    record {
-      config = s .config;
-      regs = s .regs;
-      stage = s .stage;
-      work =
-          rw (
-            good-area (writtenOf (w .chip .regs)) (written-in-range (w .chip .regs) (s .regs)),
-            some-period w s,
-            good-levels (w .chip .regs .power),
-          );
-      stored = s .stored;
-      fits =
-          fitting (w .chip .config) (refreshStarted own w .lent)
-          (record { old = k .old; new = k .new; states = k .states; numbers = numbers-length w s; picture = k .picture; rows = k .rows });
-      states = s .states;
-      numbers = λ e. numbers-known w s;
-    }
+sound-refresh-started p s = record {
+  config = s .config;
+  regs = s .regs;
+  stage = s .stage;
+  work =
+      rw (
+        good-area (writtenOf (p .regs)) (written-in-range (p .regs) (s .regs)),
+        some-period p s,
+        good-levels (p .regs .power),
+      );
+  stored = s .stored;
+}
 
-sound-refreshed-by : (n : Note) (w : World) → Sound w → Sound (refreshedBy own n w)
-sound-refreshed-by Quiet w s = sound-refresh-started w s
-sound-refreshed-by (Told d) w s = sound-tell d w s
+sound-refreshed-by : (n : Note) (p : Uc8253) → SoundChip p → SoundChip (refreshedBy own n p)
+sound-refreshed-by Quiet p s = sound-refresh-started p s
+sound-refreshed-by (Told d) p s = s
 
-pub sound-refreshed : (w : World) → Sound w → Sound (refreshed own w)
+pub sound-refreshed : (p : Uc8253) → SoundChip p → SoundChip (refreshed own p)
 unfolding refreshed
-sound-refreshed w s = sound-refreshed-by (refreshNote (getD (w .chip .regs .psr) 0 0) (w .chip .mode .powered)) w s
+sound-refreshed p s = sound-refreshed-by (refreshNote (getD (p .regs .psr) 0 0) (p .mode .powered)) p s

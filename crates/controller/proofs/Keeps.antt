@@ -1,23 +1,14 @@
--- What every call's own part leaves of the record: its configuration, its clock and VCOM's rule. Only event kind 6, which has no part
--- here, changes the last.
-use mathlib.Core.Path.{_≡_, refl, ap, sym, subst, _∙_}
+-- What every call's own part leaves of the record: its configuration, its clock, its log and VCOM's rule. Only event kind 6, which has no
+-- part here, changes the last.
+use mathlib.Core.Path.{_≡_, refl, _∙_}
 use mathlib.Core.Bool.{Bool, true, false}
-use mathlib.Core.List.{List, [], _∷_}
-use Prim.Native.Nat.{ℕ, _+_, _-_, _/_, _≤_, min, max}
-use native.Mathlib.Omega.{arith}
-use lib.Dec.{eqb, ltb, leb}
-use lib.ListN.{getD, take}
-use Rattle.base.specs.Word.{top}
-use Rattle.base.specs.Pick.{pick, oneOf}
-use Rattle.base.proofs.Cases.{by-cases, both}
-use Rattle.clock.specs.Clock.{billion, cyclesOf, nanosOf}
-use Rattle.clock.proofs.ClockLaws.{cycles-same, nanos-same}
-use Rattle.config.specs.declared.Uc8253Config.{Uc8253Config}
-use Rattle.registers.specs.Luts.{resetLuts}
-use Rattle.registers.specs.Reset.{resetOf}
-use Rattle.registers.specs.Flags.{copiesNewToOld}
+use mathlib.Core.List.{[], _∷_}
+use Prim.Native.Nat.{ℕ}
+use lib.Dec.{eqb, leb}
+use lib.ListN.{getD}
+use Rattle.base.specs.Pick.{oneOf}
+use Rattle.base.proofs.Cases.{both}
 use Rattle.registers.specs.Written.{writtenOf}
-use Rattle.waveform.specs.Tables.{durationOf}
 use Rattle.command.specs.declared.kinds.Kind.{Kind}
 use Rattle.command.specs.declared.kinds.Kind.the-variants as kind
 use Rattle.command.specs.Kinds.{kindOf}
@@ -28,207 +19,204 @@ use Rattle.controller.specs.declared.Work.the-variants as work
 use Rattle.controller.specs.declared.Active.{Active}
 use Rattle.controller.specs.declared.Current.{Current}
 use Rattle.controller.specs.declared.Current.the-variants as current
-use Rattle.controller.specs.declared.Refresh.{Refresh}
 use Rattle.controller.specs.declared.Uc8253.{Uc8253}
 use Rattle.controller.specs.declared.notes.Note.{Note}
 use Rattle.controller.specs.declared.notes.Note.the-variants.{Quiet, Told}
 use Rattle.controller.specs.declared.uses.Use.{Use}
 use Rattle.controller.specs.declared.uses.Use.the-variants as use-for
-use Rattle.diagnostic.specs.declared.DiagnosticKind.{DiagnosticKind}
-use Rattle.diagnostic.specs.declared.DiagnosticKind.the-variants.{UnknownCommand, UnsupportedCommand, DataWithoutCommand, ExtraData}
-use Rattle.diagnostic.specs.declared.DiagnosticKind.the-variants.{WrongCheckCode, PastTheWindow, NothingToRead, ResetDuringRefresh}
-use Rattle.controller.specs.declared.reads.Read.{Read}
-use Rattle.controller.specs.declared.reads.Read.the-variants.{Byte, Nothing}
-use Rattle.controller.specs.World.{World, world, onChip}
-use Rattle.controller.specs.Setters.{withOperation, withWaveform, withNumbers, withRegs, withLuts, withPowered, withPower, withCurrent}
-use Rattle.controller.specs.Tell.{tell, told}
-use Rattle.controller.specs.Counting.{own, same}
-use Rattle.controller.specs.Arrives.{timed, endedBy, ended, arrived, starting}
-use Rattle.controller.specs.Refresh.{waveformNow, numbersNow, kindBy, refreshNote, refreshing, refreshStarted, refreshedBy, refreshed}
-use Rattle.controller.specs.Refresh.{finished, allFrames, elapsed, copiedAfter, endedRefresh, cutRefresh}
-use Rattle.controller.specs.Command.{closingNote, closedBy, closed, barredNote, begun, executed, sortedBy, passedBy, passed, commandByte}
-use Rattle.controller.specs.DataByte.{moreOf, softOf, purposeOf, under, pixelChip, pastWindow, olderByte, newerByte, usedBy, givenBy, dataByte}
+use Rattle.controller.specs.Arrives.{timed, endedBy, ended, arrived}
+use Rattle.controller.specs.Refresh.{refreshNote, refreshStarted, refreshedBy, refreshed, endedRefresh, cutRefresh}
+use Rattle.controller.specs.Command.{barredNote, begun, executed, sortedBy, passedBy, commandByte}
+use Rattle.controller.specs.DataByte.{moreOf, purposeOf, pastRow, pixelChip, pixelByte, usedBy, givenBy, dataByte}
 use Rattle.controller.specs.Reading as byte
-use Rattle.controller.specs.Reading.{drivenByte, readMore, missedBy, afterRead, readingBy}
-use Rattle.controller.specs.Reset.{cutBy, cut, cleared, loweredBy, raisedBy, edge, resetEdge}
-use Rattle.controller.specs.TurnedBack.{turnedBack}
-use Rattle.controller.specs.Calls.{called, takingRefused, takeCall}
-use Rattle.controller.specs.Ask.{Ask, command, datum, reading, advance, reset, taking, askBusy, askDeadline, askBit, askRow, didBy}
+use Rattle.controller.specs.Reset.{cutBy, cleared, loweredBy, raisedBy, resetEdge}
+use Rattle.controller.specs.Counting.{own}
+use Rattle.controller.specs.Ask.{Ask, command, datum, reading, advance, reset, vcomRule, taking, askBusy, askDeadline, askBit, askRow, askPicture}
+use Rattle.controller.specs.Ask.{whenOf, clockWhen, recordAfter}
 
--- ---- what closing the command and the end of an operation leave of the record
-pub record Kept (w v : World) : Type 0 where
-  pub config : v .chip .config ≡ w .chip .config
-  pub clock : v .chip .now ≡ w .chip .now
-  pub rule : v .chip .mode .«vcom_by_frame» ≡ w .chip .mode .«vcom_by_frame»
+pub record Kept (p q : Uc8253) : Type 0 where
+  pub config : q .config ≡ p .config
+  pub clock : q .now ≡ p .now
+  pub rule : q .mode .«vcom_by_frame» ≡ p .mode .«vcom_by_frame»
+  pub log : q .log ≡ p .log
 
-pub kept : {w v : World} → v .chip .config ≡ w .chip .config → v .chip .now ≡ w .chip .now
-    → v .chip .mode .«vcom_by_frame» ≡ w .chip .mode .«vcom_by_frame» → Kept w v
-kept c t r = record { config = c; clock = t; rule = r }
+pub kept : {p q : Uc8253} → q .config ≡ p .config → q .now ≡ p .now → q .mode .«vcom_by_frame» ≡ p .mode .«vcom_by_frame»
+    → q .log ≡ p .log → Kept p q
+kept c t r l = record { config = c; clock = t; rule = r; log = l }
 
-kept-told : (n : Note) (w : World) → Kept w (told n w)
-unfolding tell
-kept-told Quiet w = kept refl refl refl
-kept-told (Told k) w = kept refl refl refl
+pub then : {p q r : Uc8253} → Kept p q → Kept q r → Kept p r
+then k l = record { config = l .config ∙ k .config; clock = l .clock ∙ k .clock; rule = l .rule ∙ k .rule; log = l .log ∙ k .log }
 
-kept-closed-by : (x : Current) (w : World) → Kept w (closedBy x w)
-kept-closed-by current.Idle w = kept refl refl refl
-kept-closed-by current.Ignoring w = kept refl refl refl
-kept-closed-by (current.Active a) w = let k = kept-told (closingNote a) w in kept (k .config) (k .clock) (k .rule)
+-- a command byte, a data byte and a read leave the head of the picture too
+pub record KeptAll (p q : Uc8253) : Type 0 where
+  pub kept-most : Kept p q
+  pub image : q .image ≡ p .image
 
-pub kept-closed : (w : World) → Kept w (closed w)
-unfolding closed
-kept-closed w = kept-closed-by (w .chip .stage .current) w
+abbrev same : {p q : Uc8253} → q .config ≡ p .config → q .now ≡ p .now → q .mode .«vcom_by_frame» ≡ p .mode .«vcom_by_frame»
+    → q .log ≡ p .log → q .image ≡ p .image → KeptAll p q
+same c t r l i = record { kept-most = kept c t r l; image = i }
 
-kept-refresh : (r : Refresh) (w : World) → Kept w (endedRefresh r w)
-unfolding endedRefresh copiedAfter finished
-kept-refresh r w =
-    by-cases (copiesNewToOld (w .chip .config .variant) (w .chip .regs))
-    (λ e. rw e (kept refl refl refl))
-    (λ e. rw e (kept refl refl refl))
+both-then : {p q r : Uc8253} → KeptAll p q → KeptAll q r → KeptAll p r
+both-then k l = record { kept-most = then (k .kept-most) (l .kept-most); image = l .image ∙ k .image }
 
-kept-ended-by : (x : Work) (w : World) → Kept w (endedBy x w)
-kept-ended-by work.Nothing w = kept refl refl refl
-kept-ended-by work.PowerOn w = kept refl refl refl
-kept-ended-by work.PowerOff w = kept refl refl refl
-kept-ended-by work.DeepSleep w = kept refl refl refl
-kept-ended-by work.SoftReset w = kept refl refl refl
-kept-ended-by work.HardwareReset w = kept refl refl refl
-kept-ended-by (work.Refresh r) w = let k = kept-refresh r w in kept (k .config) (k .clock) (k .rule)
+-- ---- the end of an operation
+kept-ended-by : (x : Work) (p : Uc8253) → Kept p (endedBy x p)
+unfolding endedRefresh
+kept-ended-by work.Nothing p = kept refl refl refl refl
+kept-ended-by work.PowerOn p = kept refl refl refl refl
+kept-ended-by work.PowerOff p = kept refl refl refl refl
+kept-ended-by work.DeepSleep p = kept refl refl refl refl
+kept-ended-by work.SoftReset p = kept refl refl refl refl
+kept-ended-by work.HardwareReset p = kept refl refl refl refl
+kept-ended-by (work.Refresh r) p = kept refl refl refl refl
 
-pub kept-ended : (w : World) → Kept w (ended w)
+pub kept-ended : (p : Uc8253) → Kept p (ended p)
 unfolding ended
-kept-ended w =
-    by-cases (leb (w .chip .operation .until) (w .chip .now))
-    (λ e. rw e (kept-ended-by (w .chip .operation .work) w))
-    (λ e. rw e (kept refl refl refl))
+kept-ended p = both (Kept p) (leb (p .operation .until) (p .now)) (kept-ended-by (p .operation .work) p) (kept refl refl refl refl)
 
-pub kept-arrived : (t : ℕ) (w : World) → Kept (timed t w) (arrived t w)
+pub kept-arrived : (t : ℕ) (p : Uc8253) → Kept (timed t p) (arrived t p)
 unfolding arrived
-kept-arrived t w = kept-ended (timed t w)
+kept-arrived t p = kept-ended (timed t p)
 
--- ---- what the calls' own parts leave of it
-pub then : {w v u : World} → Kept w v → Kept v u → Kept w u
-then k l = record { config = l .config ∙ k .config; clock = l .clock ∙ k .clock; rule = l .rule ∙ k .rule }
-
-pub kept-tell : (d : DiagnosticKind) (w : World) → Kept w (tell d w)
-unfolding tell
-kept-tell d w = kept refl refl refl
-
-kept-refreshed-by : (n : Note) (w : World) → Kept w (refreshedBy own n w)
+-- ---- a command byte
+kept-refreshed-by : (n : Note) (p : Uc8253) → KeptAll p (refreshedBy own n p)
 unfolding refreshStarted
-kept-refreshed-by (Told k) w = kept-tell k w
-kept-refreshed-by Quiet w = kept refl refl refl
+kept-refreshed-by (Told k) p = same refl refl refl refl refl
+kept-refreshed-by Quiet p = same refl refl refl refl refl
 
-kept-executed : (c : ℕ) (w : World) → Kept w (executed own c w)
+kept-executed : (c : ℕ) (p : Uc8253) → KeptAll p (executed own c p)
 unfolding executed refreshed
-kept-executed c w =
-    both (Kept w) (eqb c 0x04) (both (Kept w) (w .chip .mode .powered) (kept refl refl refl) (kept refl refl refl))
-    (both (Kept w) (eqb c 0x02) (both (Kept w) (w .chip .mode .powered) (kept refl refl refl) (kept refl refl refl))
-    (both (Kept w) (eqb c 0x12) (kept-refreshed-by (refreshNote (getD (w .chip .regs .psr) 0 0) (w .chip .mode .powered)) w)
-    (both (Kept w) (eqb c 0x91) (kept refl refl refl)
-    (both (Kept w) (eqb c 0x92) (kept refl refl refl)
-    (both (Kept w) (oneOf (0x10 ∷ 0x13 ∷ []) c) (kept refl refl refl)
-    (both (Kept w) (eqb c 0x11) (kept refl refl refl)
-    (kept refl refl refl)))))))
+kept-executed c p =
+    let here : KeptAll p p = same refl refl refl refl refl in
+    both (KeptAll p) (eqb c 0x04) (both (KeptAll p) (p .mode .powered) here (same refl refl refl refl refl))
+    (both (KeptAll p) (eqb c 0x02) (both (KeptAll p) (p .mode .powered) (same refl refl refl refl refl) here)
+    (both (KeptAll p) (eqb c 0x12) (kept-refreshed-by (refreshNote (getD (p .regs .psr) 0 0) (p .mode .powered)) p)
+    (both (KeptAll p) (eqb c 0x91) (same refl refl refl refl refl)
+    (both (KeptAll p) (eqb c 0x92) (same refl refl refl refl refl)
+    (both (KeptAll p) (oneOf (0x10 ∷ 0x13 ∷ []) c) (same refl refl refl refl refl)
+    (both (KeptAll p) (eqb c 0x11) (same refl refl refl refl refl)
+    here))))))
 
-kept-sorted-by : (k : Kind) (c : ℕ) (w : World) → Kept w (sortedBy own k c w)
+kept-begun : (c : ℕ) (k : Kind) (p : Uc8253) → KeptAll p (begun c k p)
 unfolding begun
-kept-sorted-by kind.Unknown c w = let k = kept-tell (UnknownCommand c) w in kept (k .config) (k .clock) (k .rule)
-kept-sorted-by (kind.Unsupported n) c w = let k = kept-tell (UnsupportedCommand c) w in kept (k .config) (k .clock) (k .rule)
-kept-sorted-by (kind.Write n) c w = let k = kept-executed c (onChip (begun c (kind.Write n)) w) in kept (k .config) (k .clock) (k .rule)
-kept-sorted-by kind.Read c w = let k = kept-executed c (onChip (begun c kind.Read) w) in kept (k .config) (k .clock) (k .rule)
+kept-begun c k p = same refl refl refl refl refl
 
-kept-passed-by : (n : Note) (c : ℕ) (w : World) → Kept w (passedBy own n c w)
-kept-passed-by (Told k) c w = let l = kept-tell k w in kept (l .config) (l .clock) (l .rule)
-kept-passed-by Quiet c w = kept-sorted-by (kindOf c (w .chip .config .variant)) c w
+kept-sorted-by : (k : Kind) (c : ℕ) (p : Uc8253) → KeptAll p (sortedBy own k c p)
+kept-sorted-by kind.Unknown c p = same refl refl refl refl refl
+kept-sorted-by (kind.Unsupported n) c p = kept-begun c (kind.Unsupported n) p
+kept-sorted-by (kind.Write n) c p = both-then (kept-begun c (kind.Write n) p) (kept-executed c (begun c (kind.Write n) p))
+kept-sorted-by kind.Read c p = both-then (kept-begun c kind.Read p) (kept-executed c (begun c kind.Read p))
 
-pub kept-command : (c : ℕ) (w : World) → Kept w (commandByte own c w)
-unfolding commandByte passed
-kept-command c w =
-    let v = closed w in
-    then (kept-closed w) (kept-passed-by (barredNote (v .chip .mode .power) (v .chip .operation .work) c) c v)
+kept-passed-by : (n : Note) (c : ℕ) (p : Uc8253) → KeptAll p (passedBy own n c p)
+kept-passed-by (Told k) c p = same refl refl refl refl refl
+kept-passed-by Quiet c p = kept-sorted-by (kindOf c (p .config .variant)) c p
 
-kept-past : (a : Active) (w : World) → Kept w (pastWindow a w)
-unfolding pastWindow
-kept-past a w =
-    let k = kept-tell (PastTheWindow (a .command)) w in
-    both (Kept w) (a .«past_reported») (kept refl refl refl) (kept (k .config) (k .clock) (k .rule))
+pub all-command : (c : ℕ) (p : Uc8253) → KeptAll p (commandByte own c p)
+unfolding commandByte
+all-command c p = kept-passed-by (barredNote (p .mode .power) (p .operation .work) c) c p
 
-kept-older : (a : Active) (b : ℕ) (w : World) → Kept w (olderByte a b w)
-unfolding olderByte pixelChip
-kept-older a b w = both (Kept w) (ltb (writtenOf (w .chip .regs) .y1) (a .cursor .y)) (kept-past a w) (kept refl refl refl)
+-- ---- a data byte
+kept-pixel : (a : Active) (p : Uc8253) → KeptAll p (pixelByte a p)
+unfolding pixelByte pixelChip
+kept-pixel a p = both (KeptAll p) (pastRow (writtenOf (p .regs)) (a .cursor)) (same refl refl refl refl refl) (same refl refl refl refl refl)
 
-kept-newer : (a : Active) (b : ℕ) (w : World) → Kept w (newerByte a b w)
-unfolding newerByte pixelChip
-kept-newer a b w = both (Kept w) (ltb (writtenOf (w .chip .regs) .y1) (a .cursor .y)) (kept-past a w) (kept refl refl refl)
+kept-used-by : (u : Use) (a : Active) (b : ℕ) (p : Uc8253) → KeptAll p (usedBy own u a b p)
+kept-used-by use-for.Extra a b p = same refl refl refl refl refl
+kept-used-by use-for.Quiet a b p = same refl refl refl refl refl
+kept-used-by use-for.Soft a b p = same refl refl refl refl refl
+kept-used-by use-for.Sleep a b p = same refl refl refl refl refl
+kept-used-by use-for.Wrong a b p = same refl refl refl refl refl
+kept-used-by use-for.Register a b p = same refl refl refl refl refl
+kept-used-by use-for.Older a b p = kept-pixel (moreOf a) p
+kept-used-by use-for.Newer a b p = kept-pixel (moreOf a) p
 
-kept-used-by : (u : Use) (a : Active) (b : ℕ) (w : World) → Kept w (usedBy own u a b w)
-kept-used-by use-for.Extra a b w = let k = kept-tell (ExtraData (a .command)) w in kept (k .config) (k .clock) (k .rule)
-kept-used-by use-for.Quiet a b w = kept refl refl refl
-kept-used-by use-for.Soft a b w = kept refl refl refl
-kept-used-by use-for.Sleep a b w = kept refl refl refl
-kept-used-by use-for.Wrong a b w = let k = kept-tell (WrongCheckCode b) w in kept (k .config) (k .clock) (k .rule)
-kept-used-by use-for.Register a b w = kept refl refl refl
-kept-used-by use-for.Older a b w = kept-older (moreOf a) b w
-kept-used-by use-for.Newer a b w = kept-newer (moreOf a) b w
+kept-given-by : (x : Current) (b : ℕ) (p : Uc8253) → KeptAll p (givenBy own x b p)
+kept-given-by current.Idle b p = same refl refl refl refl refl
+kept-given-by current.Ignoring b p = same refl refl refl refl refl
+kept-given-by (current.Active a) b p = kept-used-by (purposeOf a b) a b p
 
-kept-given-by : (x : Current) (b : ℕ) (w : World) → Kept w (givenBy own x b w)
-kept-given-by current.Idle b w = let k = kept-tell (DataWithoutCommand b) w in kept (k .config) (k .clock) (k .rule)
-kept-given-by current.Ignoring b w = kept refl refl refl
-kept-given-by (current.Active a) b w = kept-used-by (purposeOf a b) a b w
-
-pub kept-data : (b : ℕ) (w : World) → Kept w (dataByte own b w)
+pub all-data : (b : ℕ) (p : Uc8253) → KeptAll p (dataByte own b p)
 unfolding dataByte
-kept-data b w = kept-given-by (w .chip .stage .current) b w
+all-data b p = kept-given-by (p .stage .current) b p
 
-kept-missed : (x : Read) (a : Active) (w : World) → Kept w (missedBy x a w)
-kept-missed (Byte b) a w = kept refl refl refl
-kept-missed Nothing a w = both (Kept w) (eqb (a .read) 0) (kept-tell (NothingToRead (a .command)) w) (kept refl refl refl)
+-- ---- a read
+kept-after-read : (k : Kind) (a : Active) (p : Uc8253) → KeptAll p (byte.afterRead k a p)
+kept-after-read (kind.Write n) a p = same refl refl refl refl refl
+kept-after-read kind.Read a p = same refl refl refl refl refl
+kept-after-read (kind.Unsupported n) a p = same refl refl refl refl refl
+kept-after-read kind.Unknown a p = same refl refl refl refl refl
 
-kept-after-read : (k : Kind) (a : Active) (w : World) → Kept w (afterRead k a w)
-kept-after-read (kind.Write n) a w = kept refl refl refl
-kept-after-read kind.Read a w =
-    let k = kept-missed (drivenByte (w .chip .config .variant) (w .chip) (a .command) (a .read)) a (onChip (withCurrent (current.Active (readMore a))) w) in
-    kept (k .config) (k .clock) (k .rule)
-kept-after-read (kind.Unsupported n) a w = kept refl refl refl
-kept-after-read kind.Unknown a w = kept refl refl refl
+kept-reading-by : (x : Current) (p : Uc8253) → KeptAll p (byte.readingBy x p)
+kept-reading-by current.Idle p = same refl refl refl refl refl
+kept-reading-by current.Ignoring p = same refl refl refl refl refl
+kept-reading-by (current.Active a) p = kept-after-read (a .kind) a p
 
-kept-reading-by : (x : Current) (w : World) → Kept w (readingBy x w)
-kept-reading-by current.Idle w = kept refl refl refl
-kept-reading-by current.Ignoring w = kept refl refl refl
-kept-reading-by (current.Active a) w = kept-after-read (a .kind) a w
-
-pub kept-reading : (w : World) → Kept w (byte.reading w)
+pub all-reading : (p : Uc8253) → KeptAll p (byte.reading p)
 unfolding byte.reading
-kept-reading w = kept-reading-by (w .chip .stage .current) w
+all-reading p = kept-reading-by (p .stage .current) p
 
-kept-cut-by : (x : Work) (w : World) → Kept w (cutBy own x w)
-unfolding tell cutRefresh finished
-kept-cut-by work.Nothing w = kept refl refl refl
-kept-cut-by work.PowerOn w = kept refl refl refl
-kept-cut-by work.PowerOff w = kept refl refl refl
-kept-cut-by work.DeepSleep w = kept refl refl refl
-kept-cut-by work.SoftReset w = kept refl refl refl
-kept-cut-by work.HardwareReset w = kept refl refl refl
-kept-cut-by (work.Refresh r) w = kept refl refl refl
+pub kept-command : (c : ℕ) (p : Uc8253) → Kept p (commandByte own c p)
+kept-command c p = all-command c p .kept-most
 
-kept-dropped : (w : World) → Kept w (onChip cleared (closed (cut own w)))
-unfolding cut cleared
-kept-dropped w =
-    let k = then (kept-cut-by (w .chip .operation .work) w) (kept-closed (cut own w)) in
-    kept (k .config) (k .clock) (k .rule)
+pub kept-data : (b : ℕ) (p : Uc8253) → Kept p (dataByte own b p)
+kept-data b p = all-data b p .kept-most
 
-kept-lowered-by : (y : Power) (w : World) → Kept w (loweredBy own y w)
-kept-lowered-by power.Running w = kept-dropped w
-kept-lowered-by power.Asleep w = kept-dropped w
-kept-lowered-by power.InReset w = kept refl refl refl
+pub kept-reading : (p : Uc8253) → Kept p (byte.reading p)
+kept-reading p = all-reading p .kept-most
 
-kept-raised-by : (y : Power) (w : World) → Kept w (raisedBy own y w)
-kept-raised-by power.Running w = kept refl refl refl
-kept-raised-by power.Asleep w = kept refl refl refl
-kept-raised-by power.InReset w = kept refl refl refl
+-- ---- the reset line
+kept-dropped : (x : Work) (p : Uc8253) → Kept p (cleared (cutBy x p))
+unfolding cutRefresh cleared
+kept-dropped work.Nothing p = kept refl refl refl refl
+kept-dropped work.PowerOn p = kept refl refl refl refl
+kept-dropped work.PowerOff p = kept refl refl refl refl
+kept-dropped work.DeepSleep p = kept refl refl refl refl
+kept-dropped work.SoftReset p = kept refl refl refl refl
+kept-dropped work.HardwareReset p = kept refl refl refl refl
+kept-dropped (work.Refresh r) p = kept refl refl refl refl
 
-pub kept-edge : (asserted : Bool) (w : World) → Kept w (resetEdge own asserted w)
+kept-lowered-by : (y : Power) (p : Uc8253) → Kept p (loweredBy y p)
+kept-lowered-by power.Running p = kept-dropped (p .operation .work) p
+kept-lowered-by power.Asleep p = kept-dropped (p .operation .work) p
+kept-lowered-by power.InReset p = kept refl refl refl refl
+
+kept-raised-by : (y : Power) (p : Uc8253) → Kept p (raisedBy own y p)
+kept-raised-by power.Running p = kept refl refl refl refl
+kept-raised-by power.Asleep p = kept refl refl refl refl
+kept-raised-by power.InReset p = kept refl refl refl refl
+
+pub kept-edge : (asserted : Bool) (p : Uc8253) → Kept p (resetEdge own asserted p)
 unfolding resetEdge
-kept-edge true w = kept-lowered-by (w .chip .mode .power) w
-kept-edge false w = kept-raised-by (w .chip .mode .power) w
+kept-edge true p = kept-lowered-by (p .mode .power) p
+kept-edge false p = kept-raised-by (p .mode .power) p
+
+-- ---- every call: the configuration stays, and the clock becomes the larger of itself and the time given
+pub config-after : (a : Ask) (p : Uc8253) → recordAfter own a p .config ≡ p .config
+unfolding recordAfter
+config-after (command t c) p = kept-command c (arrived t p) .config ∙ kept-arrived t p .config
+config-after (datum t b) p = kept-data b (arrived t p) .config ∙ kept-arrived t p .config
+config-after (reading t) p = kept-reading (arrived t p) .config ∙ kept-arrived t p .config
+config-after (advance t) p = kept-arrived t p .config
+config-after (reset t asserted) p = kept-edge asserted (arrived t p) .config ∙ kept-arrived t p .config
+config-after (vcomRule t x) p = kept-arrived t p .config
+config-after taking p = refl
+config-after (askBusy t) p = refl
+config-after askDeadline p = refl
+config-after (askBit older x y) p = refl
+config-after (askRow y) p = refl
+config-after (askPicture top wide) p = refl
+
+pub clock-after : (a : Ask) (p : Uc8253) → recordAfter own a p .now ≡ clockWhen (whenOf a) (p .now)
+unfolding recordAfter
+clock-after (command t c) p = kept-command c (arrived t p) .clock ∙ kept-arrived t p .clock
+clock-after (datum t b) p = kept-data b (arrived t p) .clock ∙ kept-arrived t p .clock
+clock-after (reading t) p = kept-reading (arrived t p) .clock ∙ kept-arrived t p .clock
+clock-after (advance t) p = kept-arrived t p .clock
+clock-after (reset t asserted) p = kept-edge asserted (arrived t p) .clock ∙ kept-arrived t p .clock
+clock-after (vcomRule t x) p = kept-arrived t p .clock
+clock-after taking p = refl
+clock-after (askBusy t) p = refl
+clock-after askDeadline p = refl
+clock-after (askBit older x y) p = refl
+clock-after (askRow y) p = refl
+clock-after (askPicture top wide) p = refl

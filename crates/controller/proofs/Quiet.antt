@@ -14,9 +14,10 @@ use Rattle.base.specs.Pick.{pick, oneOf}
 use Rattle.base.proofs.Cases.{by-cases, both}
 use Rattle.config.specs.declared.Uc8253Config.{Uc8253Config}
 use Rattle.config.specs.declared.Variant.{Variant}
+use Rattle.registers.specs.declared.Area.{Area}
 use Rattle.registers.specs.declared.Registers.{Registers}
 use Rattle.registers.specs.declared.luts.Luts.{Luts}
-use Rattle.registers.specs.Flags.{bitSet, copiesNewToOld}
+use Rattle.registers.specs.Flags.{bitSet}
 use Rattle.registers.specs.Written.{writtenOf}
 use Rattle.waveform.specs.declared.Waveform.{Waveform}
 use Rattle.command.specs.declared.kinds.Kind.{Kind}
@@ -33,45 +34,34 @@ use Rattle.controller.specs.declared.Operation.{Operation}
 use Rattle.controller.specs.declared.Active.{Active}
 use Rattle.controller.specs.declared.Current.{Current}
 use Rattle.controller.specs.declared.Current.the-variants as current
+use Rattle.controller.specs.declared.Uc8253.{Uc8253}
 use Rattle.controller.specs.declared.notes.Note.{Note}
 use Rattle.controller.specs.declared.notes.Note.the-variants.{Quiet, Told}
 use Rattle.controller.specs.declared.uses.Use.{Use}
 use Rattle.controller.specs.declared.uses.Use.the-variants as use-for
-use Rattle.controller.specs.declared.reads.Read.{Read}
-use Rattle.controller.specs.declared.reads.Read.the-variants.{Byte, Nothing}
-use Rattle.controller.specs.World.{World, Buffers, world, onChip}
-use Rattle.controller.specs.Setters.{withCurrent, withOperation}
-use Rattle.controller.specs.Tell.{tell, told}
 use Rattle.controller.specs.Counting.{own}
 use Rattle.controller.specs.Arrives.{timed, rest, endedBy, ended, arrived}
-use Rattle.controller.specs.Refresh.{refreshNote, refreshStarted, refreshedBy, refreshed, finished, copiedAfter, endedRefresh}
-use Rattle.controller.specs.Command.{closingNote, closedBy, closed, inReset, asleep, initialises, busy, barredNote, begun}
-use Rattle.controller.specs.Command.{executed, sortedBy, passedBy, passed, commandByte}
-use Rattle.controller.specs.DataByte.{countedOf, moreOf, doing, doneBy, purposeOf, pixelChip, pastWindow}
-use Rattle.controller.specs.DataByte.{olderByte, newerByte, usedBy, givenBy, dataByte}
+use Rattle.controller.specs.Refresh.{refreshNote, refreshStarted, refreshedBy, refreshed, endedRefresh}
+use Rattle.controller.specs.Command.{inReset, asleep, initialises, busy, barredNote, begun}
+use Rattle.controller.specs.Command.{executed, sortedBy, passedBy, commandByte}
+use Rattle.controller.specs.DataByte.{countedOf, moreOf, doing, doneBy, purposeOf, pastRow, pixelChip, pixelByte}
+use Rattle.controller.specs.DataByte.{usedBy, givenBy, dataByte, putAt, forOld, forNew, takenBy, planeByte}
 use Rattle.controller.specs.Reading as byte
-use Rattle.controller.specs.Reading.{drivenByte, readMore, missedBy, afterRead, readingBy}
+use Rattle.controller.specs.Reading.{readMore, afterRead, readingBy}
 use Rattle.controller.specs.Reset.{cleared, loweredBy, raisedBy, resetEdge}
 use Rattle.controller.specs.Calls.{firstChip}
+use Rattle.controller.specs.Ask.{Ask, command, datum, reading, advance, reset, vcomRule, taking, askBusy, askDeadline, askBit, askRow, askPicture}
+use Rattle.controller.specs.Ask.{recordAfter}
 
--- what stays while an operation runs
+-- what stays of the record while an operation runs; the planes stay too (`plane-quiet`)
 pub record Stays : Type 0 where
   pub regs : Registers
   pub luts : Luts
-  pub old : List ℕ
-  pub new : List ℕ
   pub operation : Operation
   pub waveform : Waveform
 
-abbrev pub stays : World → Stays
-stays w = record {
-  regs = w .chip .regs;
-  luts = w .chip .luts;
-  old = w .lent .old;
-  new = w .lent .new;
-  operation = w .chip .operation;
-  waveform = w .chip .waveform;
-}
+abbrev pub stays : Uc8253 → Stays
+stays p = record { regs = p .regs; luts = p .luts; operation = p .operation; waveform = p .waveform }
 
 -- ---- a command that takes no further byte
 -- after i bytes the largest count is reached; counts hold at 65,535
@@ -108,8 +98,8 @@ pub record Guarded (y : Power) (x : Work) (c : Current) : Type 0 where
   pub runs : busy x ≡ true → deaf c ≡ true
   pub once : single c ≡ true
 
-abbrev pub GuardedIn : World → Type 0
-GuardedIn w = Guarded (w .chip .mode .power) (w .chip .operation .work) (w .chip .stage .current)
+abbrev pub GuardedIn : Uc8253 → Type 0
+GuardedIn p = Guarded (p .mode .power) (p .operation .work) (p .stage .current)
 
 -- it holds of a command that takes no byte, out of reset; and where nothing runs
 awake-deaf : {y : Power} {x : Work} {c : Current} → inReset y ≡ false → deaf c ≡ true → single c ≡ true → Guarded y x c
@@ -130,16 +120,16 @@ guarded-ignoring : {y : Power} {x : Work} → (inReset y ≡ true → busy x ≡
 guarded-ignoring a = record { alone = a; low = λ e. refl; runs = λ e. refl; once = refl }
 
 -- what a call's own part makes of a world: the invariant again, and what stays if an operation runs
-pub record Spared (w v : World) : Type 0 where
+pub record Spared (p v : Uc8253) : Type 0 where
   pub guarded : GuardedIn v
-  pub same : busy (w .chip .operation .work) ≡ true → stays v ≡ stays w
+  pub same : busy (p .operation .work) ≡ true → stays v ≡ stays p
 
 -- nothing changes; nothing ran
-spared-whole : (w : World) → GuardedIn w → Spared w w
-spared-whole w g = record { guarded = g; same = λ e. refl }
+spared-whole : (p : Uc8253) → GuardedIn p → Spared p p
+spared-whole p g = record { guarded = g; same = λ e. refl }
 
-spared-free : (w v : World) → busy (w .chip .operation .work) ≡ false → GuardedIn v → Spared w v
-spared-free w v r g = record { guarded = g; same = λ e. absurd (true≢false (sym e ∙ r)) }
+spared-free : (p v : Uc8253) → busy (p .operation .work) ≡ false → GuardedIn v → Spared p v
+spared-free p v r g = record { guarded = g; same = λ e. absurd (true≢false (sym e ∙ r)) }
 
 -- ---- counts: what takes no byte takes none later
 full-later : (p : Params) (i j : ℕ) → min i 65535 ≤ min j 65535 → full p i ≡ true → full p j ≡ true
@@ -168,44 +158,27 @@ full-takes params.Stream i e = absurd (true≢false (sym e))
 guarded-rests : {y : Power} {x : Work} {c : Current} → Guarded y x c → Guarded y work.Nothing c
 guarded-rests g = record { alone = λ e. refl; low = g .low; runs = λ e. absurd (false≢true e); once = g .once }
 
-guarded-ended-by : (x : Work) (w : World) → GuardedIn w → GuardedIn (endedBy x w)
-unfolding endedRefresh copiedAfter finished
-guarded-ended-by work.Nothing w g = g
-guarded-ended-by work.PowerOn w g = guarded-rests g
-guarded-ended-by work.PowerOff w g = guarded-rests g
-guarded-ended-by work.DeepSleep w g = awake-free refl refl (g .once)
-guarded-ended-by work.SoftReset w g = guarded-rests g
-guarded-ended-by work.HardwareReset w g = guarded-rests g
-guarded-ended-by (work.Refresh r) w g =
-    both (λ (v : World). GuardedIn (onChip (withOperation rest) v)) (copiesNewToOld (w .chip .config .variant) (w .chip .regs))
-    (guarded-rests g) (guarded-rests g)
+guarded-ended-by : (x : Work) (p : Uc8253) → GuardedIn p → GuardedIn (endedBy x p)
+unfolding endedRefresh
+guarded-ended-by work.Nothing p g = g
+guarded-ended-by work.PowerOn p g = guarded-rests g
+guarded-ended-by work.PowerOff p g = guarded-rests g
+guarded-ended-by work.DeepSleep p g = awake-free refl refl (g .once)
+guarded-ended-by work.SoftReset p g = guarded-rests g
+guarded-ended-by work.HardwareReset p g = guarded-rests g
+guarded-ended-by (work.Refresh r) p g = guarded-rests g
 
-pub guarded-arrived : (t : ℕ) (w : World) → GuardedIn w → GuardedIn (arrived t w)
+pub guarded-arrived : (t : ℕ) (p : Uc8253) → GuardedIn p → GuardedIn (arrived t p)
 unfolding arrived ended
-guarded-arrived t w g =
-    both GuardedIn (leb (w .chip .operation .until) (max (w .chip .now) t)) (guarded-ended-by (w .chip .operation .work) (timed t w) g) g
+guarded-arrived t p g =
+    both GuardedIn (leb (p .operation .until) (max (p .now) t)) (guarded-ended-by (p .operation .work) (timed t p) g) g
 
 -- before the operation's end the clock alone moves
-pub arrived-before : (t : ℕ) (w : World) → max (w .chip .now) t < w .chip .operation .until → arrived t w ≡ timed t w
+pub arrived-before : (t : ℕ) (p : Uc8253) → max (p .now) t < p .operation .until → arrived t p ≡ timed t p
 unfolding arrived ended
-arrived-before t w h = rw (lt-leb (w .chip .operation .until) (max (w .chip .now) t) h)
+arrived-before t p h = rw (lt-leb (p .operation .until) (max (p .now) t) h)
 
 -- ---- a command byte
--- the command before it closes
-record Shut (w v : World) : Type 0 where
-  power-is : v .chip .mode .power ≡ w .chip .mode .power
-  same : stays v ≡ stays w
-
-shut-by : (x : Current) (w : World) → Shut w (closedBy x w)
-unfolding tell
-shut-by current.Idle w = record { power-is = refl; same = refl }
-shut-by current.Ignoring w = record { power-is = refl; same = refl }
-shut-by (current.Active a) w = shut-noted (closingNote a)
-  where
-    shut-noted : (n : Note) → Shut w (onChip (withCurrent current.Ignoring) (told n w))
-    shut-noted Quiet = record { power-is = refl; same = refl }
-    shut-noted (Told k) = record { power-is = refl; same = refl }
-
 -- it is dropped; or it passes, out of reset, and if an operation runs it is 70, 71 or 81
 neither : (a b : Bool) → (a || b) ≡ false → a ≡ false
 neither true b e = e
@@ -231,26 +204,26 @@ readable P p q r c e =
     (λ t2. let n : oneOf (0x70 ∷ 0x71 ∷ 0x81 ∷ []) c ≡ false = rw (t0, t1, t2) in absurd (false≢true (sym n ∙ e)))))
 
 -- these three are read commands: nothing but the command under way changes
-spared-read : (w : World) → inReset (w .chip .mode .power) ≡ false → (v : Variant) (c : ℕ) → oneOf (0x70 ∷ 0x71 ∷ 0x81 ∷ []) c ≡ true
-    → Spared w (sortedBy own (kindOf c v) c w)
+spared-read : (p : Uc8253) → inReset (p .mode .power) ≡ false → (v : Variant) (c : ℕ) → oneOf (0x70 ∷ 0x71 ∷ 0x81 ∷ []) c ≡ true
+    → Spared p (sortedBy own (kindOf c v) c p)
 unfolding kindOf executed begun
-spared-read w n v =
-    let one : (c : ℕ) → Spared w (onChip (begun c kind.Read) w) = λ c. record {
+spared-read p n v =
+    let one : (c : ℕ) → Spared p (begun c kind.Read p) = λ c. record {
       guarded = awake-deaf n refl (both (λ (t : Bool). t ≡ true) (eqb c 0x07) refl refl);
       same = λ e. refl;
     } in
-    readable (λ (c : ℕ). Spared w (sortedBy own (kindOf c v) c w)) (one 0x70) (one 0x71) (one 0x81)
+    readable (λ (c : ℕ). Spared p (sortedBy own (kindOf c v) c p)) (one 0x70) (one 0x71) (one 0x81)
 
 -- with nothing running: 04, 02 and 12, which may start an operation, take no byte; the others start none
-refreshed-guarded : (n : Note) (w : World) → GuardedIn w → inReset (w .chip .mode .power) ≡ false → deaf (w .chip .stage .current) ≡ true
-    → GuardedIn (refreshedBy own n w)
-unfolding tell refreshStarted
-refreshed-guarded (Told k) w g n d = g
-refreshed-guarded Quiet w g n d = awake-deaf n d (g .once)
+refreshed-guarded : (n : Note) (p : Uc8253) → GuardedIn p → inReset (p .mode .power) ≡ false → deaf (p .stage .current) ≡ true
+    → GuardedIn (refreshedBy own n p)
+unfolding refreshStarted
+refreshed-guarded (Told k) p g n d = g
+refreshed-guarded Quiet p g n d = awake-deaf n d (g .once)
 
-module _ (w : World) (n : inReset (w .chip .mode .power) ≡ false) (r : busy (w .chip .operation .work) ≡ false) (v : Variant) where
+module _ (p : Uc8253) (n : inReset (p .mode .power) ≡ false) (r : busy (p .operation .work) ≡ false) (v : Variant) where
   module _ (c : ℕ) (no4 : eqb c 0x04 ≡ false) (no2 : eqb c 0x02 ≡ false) (no12 : eqb c 0x12 ≡ false) where
-    executed-guarded : (u : World) → GuardedIn u → GuardedIn (executed own c u)
+    executed-guarded : (u : Uc8253) → GuardedIn u → GuardedIn (executed own c u)
     unfolding executed
     executed-guarded u g =
         rw (no4, no2, no12)
@@ -259,51 +232,42 @@ module _ (w : World) (n : inReset (w .chip .mode .power) ≡ false) (r : busy (w
         (both GuardedIn (oneOf (0x10 ∷ 0x13 ∷ []) c) g
         (both GuardedIn (eqb c 0x11) g g))))
 
-    others-guarded : (k : Kind) → onlyByte c k ≡ true → GuardedIn (sortedBy own k c w)
-    unfolding tell begun
+    others-guarded : (k : Kind) → onlyByte c k ≡ true → GuardedIn (sortedBy own k c p)
+    unfolding begun
     others-guarded kind.Unknown s = awake-free n r refl
-    others-guarded (kind.Unsupported p) s = awake-free n r s
-    others-guarded (kind.Write p) s = executed-guarded (onChip (begun c (kind.Write p)) w) (awake-free n r s)
-    others-guarded kind.Read s = executed-guarded (onChip (begun c kind.Read) w) (awake-free n r s)
+    others-guarded (kind.Unsupported k) s = awake-free n r s
+    others-guarded (kind.Write k) s = executed-guarded (begun c (kind.Write k) p) (awake-free n r s)
+    others-guarded kind.Read s = executed-guarded (begun c kind.Read p) (awake-free n r s)
 
   only-kind : (c : ℕ) → onlyByte c (kindOf c v) ≡ true
   unfolding kindOf
   only-kind c = by-cases (eqb c 0x07) (λ e. rw (eqb-true c 0x07 e)) (λ e. rw e)
 
-  sorted-guarded : (c : ℕ) → GuardedIn (sortedBy own (kindOf c v) c w)
+  sorted-guarded : (c : ℕ) → GuardedIn (sortedBy own (kindOf c v) c p)
   unfolding kindOf executed refreshed begun
   sorted-guarded c =
-      let P : ℕ → Type 0 = λ (k : ℕ). GuardedIn (sortedBy own (kindOf k v) k w) in
-      let on = w .chip .mode .powered in
+      let P : ℕ → Type 0 = λ (k : ℕ). GuardedIn (sortedBy own (kindOf k v) k p) in
+      let on = p .mode .powered in
       by-cases (eqb c 0x04) (equals P 0x04 c (both GuardedIn on (awake-deaf n refl refl) (awake-deaf n refl refl)))
       (λ no4. by-cases (eqb c 0x02) (equals P 0x02 c (both GuardedIn on (awake-deaf n refl refl) (awake-deaf n refl refl)))
       (λ no2. by-cases (eqb c 0x12)
       (equals P 0x12 c
-      (refreshed-guarded (refreshNote (getD (w .chip .regs .psr) 0 0) on) (onChip (begun 0x12 (kindOf 0x12 v)) w)
+      (refreshed-guarded (refreshNote (getD (p .regs .psr) 0 0) on) (begun 0x12 (kindOf 0x12 v) p)
       (awake-deaf n refl refl) n refl))
       (λ no12. others-guarded c no4 no2 no12 (kindOf c v) (only-kind c))))
 
-spared-passed : (c : ℕ) (w : World) → (inReset (w .chip .mode .power) ≡ true → busy (w .chip .operation .work) ≡ false)
-    → Spared w (passed own c w)
-unfolding passed barredNote tell
-spared-passed c w alone =
-    let y = w .chip .mode .power in
-    let x = w .chip .operation .work in
-    let v = w .chip .config .variant in
-    noted-by (λ (k : Note). Spared w (passedBy own k c w)) _ _ _ (inReset y || initialises x) (asleep y) (busy x)
+pub spared-command : (c : ℕ) (p : Uc8253) → GuardedIn p → Spared p (commandByte own c p)
+unfolding commandByte barredNote
+spared-command c p g =
+    let y = p .mode .power in
+    let x = p .operation .work in
+    let v = p .config .variant in
+    noted-by (λ (k : Note). Spared p (passedBy own k c p)) _ _ _ (inReset y || initialises x) (asleep y) (busy x)
     (oneOf (0x70 ∷ 0x71 ∷ 0x81 ∷ []) c)
-    (λ k. record { guarded = guarded-ignoring alone; same = λ e. refl })
+    (λ k. record { guarded = guarded-ignoring (g .alone); same = λ e. refl })
     (λ out three.
     let n = neither (inReset y) (initialises x) out in
-    by-cases (busy x) (λ r. spared-read w n v c (three r)) (λ r. spared-free w _ r (sorted-guarded w n r v c)))
-
-pub spared-command : (c : ℕ) (w : World) → GuardedIn w → Spared w (commandByte own c w)
-unfolding commandByte closed
-spared-command c w g =
-    let s = shut-by (w .chip .stage .current) w in
-    let is : closed w .chip .operation .work ≡ w .chip .operation .work = ap (λ (p : Stays). p .operation .work) (s .same) in
-    let on = spared-passed c (closed w) (λ e. ap busy is ∙ g .alone (sym (ap inReset (s .power-is)) ∙ e)) in
-    record { guarded = on .guarded; same = λ e. on .same (ap busy is ∙ e) ∙ s .same }
+    by-cases (busy x) (λ r. spared-read p n v c (three r)) (λ r. spared-free p _ r (sorted-guarded p n r v c)))
 
 -- ---- a data byte
 -- while no byte is taken it is extra or only counted
@@ -353,10 +317,10 @@ sleeps-once a b s e =
     (λ t. absurd (true≢false (sym e ∙ awake-by (a .kind) (a .command) (a .received) b (a .«extra_reported») t)))
 
 -- where nothing runs: a byte that starts an operation is the last that its command takes
-module _ (a : Active) (b : ℕ) (w : World) (n : inReset (w .chip .mode .power) ≡ false) (r : busy (w .chip .operation .work) ≡ false)
+module _ (a : Active) (b : ℕ) (p : Uc8253) (n : inReset (p .mode .power) ≡ false) (r : busy (p .operation .work) ≡ false)
     (s : single (current.Active a) ≡ true) where
-  used-free : (u : Use) → (sleeps u ≡ true → spent (a .kind) 1 ≡ true) → GuardedIn (usedBy own u a b w)
-  unfolding tell olderByte newerByte pastWindow pixelChip
+  used-free : (u : Use) → (sleeps u ≡ true → spent (a .kind) 1 ≡ true) → GuardedIn (usedBy own u a b p)
+  unfolding pixelByte pixelChip
   used-free use-for.Extra h = awake-free n r s
   used-free use-for.Quiet h = awake-free n r s
   used-free use-for.Soft h =
@@ -365,87 +329,119 @@ module _ (a : Active) (b : ℕ) (w : World) (n : inReset (w .chip .mode .power) 
   used-free use-for.Sleep h = awake-deaf n (spent-after (a .kind) (a .received) (h refl)) s
   used-free use-for.Wrong h = awake-free n r s
   used-free use-for.Register h = awake-free n r s
-  used-free use-for.Older h =
-      both GuardedIn (ltb (writtenOf (w .chip .regs) .y1) (a .cursor .y))
-      (both GuardedIn (a .«past_reported») (awake-free n r s) (awake-free n r s)) (awake-free n r s)
-  used-free use-for.Newer h =
-      both GuardedIn (ltb (writtenOf (w .chip .regs) .y1) (a .cursor .y))
-      (both GuardedIn (a .«past_reported») (awake-free n r s) (awake-free n r s)) (awake-free n r s)
+  used-free use-for.Older h = both GuardedIn (pastRow (writtenOf (p .regs)) (a .cursor)) (awake-free n r s) (awake-free n r s)
+  used-free use-for.Newer h = both GuardedIn (pastRow (writtenOf (p .regs)) (a .cursor)) (awake-free n r s) (awake-free n r s)
 
 -- the command x under way
-abbrev Under : Current → World → Type 0
-Under x w = Guarded (w .chip .mode .power) (w .chip .operation .work) x
+abbrev Under : Current → Uc8253 → Type 0
+Under x p = Guarded (p .mode .power) (p .operation .work) x
 
-spared-deaf : (a : Active) (b : ℕ) (w : World) → Under (current.Active a) w → deaf (current.Active a) ≡ true
-    → Spared w (usedBy own (purposeOf a b) a b w)
-unfolding purposeOf tell
-spared-deaf a b w h d =
+spared-deaf : (a : Active) (b : ℕ) (p : Uc8253) → Under (current.Active a) p → deaf (current.Active a) ≡ true
+    → Spared p (usedBy own (purposeOf a b) a b p)
+unfolding purposeOf
+spared-deaf a b p h d =
     let more = spent-more (a .kind) (a .received) d in
-    let on : Under (current.Active (moreOf a)) w = record { alone = h .alone; low = λ e. more; runs = λ e. more; once = h .once } in
-    deaf-by (λ (u : Use). Spared w (usedBy own u a b w)) (a .kind) (a .command) (a .received) b (a .«extra_reported») d
+    let on : Under (current.Active (moreOf a)) p = record { alone = h .alone; low = λ e. more; runs = λ e. more; once = h .once } in
+    deaf-by (λ (u : Use). Spared p (usedBy own u a b p)) (a .kind) (a .command) (a .received) b (a .«extra_reported») d
     (record { guarded = on; same = λ e. refl })
     (record { guarded = record { alone = on .alone; low = on .low; runs = on .runs; once = on .once }; same = λ e. refl })
 
-spared-given-by : (x : Current) (b : ℕ) (w : World) → GuardedIn w → Under x w → Spared w (givenBy own x b w)
-unfolding tell
-spared-given-by current.Idle b w g h = record { guarded = guarded-ignoring (h .alone); same = λ e. refl }
-spared-given-by current.Ignoring b w g h = spared-whole w g
-spared-given-by (current.Active a) b w g h =
-    by-cases (inReset (w .chip .mode .power)) (λ l. spared-deaf a b w h (h .low l))
-    (λ n. by-cases (busy (w .chip .operation .work)) (λ r. spared-deaf a b w h (h .runs r))
-    (λ r. spared-free w _ r (used-free a b w n r (h .once) (purposeOf a b) (sleeps-once a b (h .once)))))
+spared-given-by : (x : Current) (b : ℕ) (p : Uc8253) → GuardedIn p → Under x p → Spared p (givenBy own x b p)
+spared-given-by current.Idle b p g h = record { guarded = guarded-ignoring (h .alone); same = λ e. refl }
+spared-given-by current.Ignoring b p g h = spared-whole p g
+spared-given-by (current.Active a) b p g h =
+    by-cases (inReset (p .mode .power)) (λ l. spared-deaf a b p h (h .low l))
+    (λ n. by-cases (busy (p .operation .work)) (λ r. spared-deaf a b p h (h .runs r))
+    (λ r. spared-free p _ r (used-free a b p n r (h .once) (purposeOf a b) (sleeps-once a b (h .once)))))
 
-pub spared-data : (b : ℕ) (w : World) → GuardedIn w → Spared w (dataByte own b w)
+pub spared-data : (b : ℕ) (p : Uc8253) → GuardedIn p → Spared p (dataByte own b p)
 unfolding dataByte
-spared-data b w g = spared-given-by (w .chip .stage .current) b w g g
+spared-data b p g = spared-given-by (p .stage .current) b p g g
+
+-- and no plane takes a byte in reset or while an operation runs
+deaf-mine : (mine : Use → Bool) → mine use-for.Quiet ≡ false → mine use-for.Extra ≡ false → (a : Active) (b : ℕ)
+    → deaf (current.Active a) ≡ true → mine (purposeOf a b) ≡ false
+unfolding purposeOf
+deaf-mine mine q x a b d =
+    deaf-by (λ (u : Use). mine u ≡ false) (a .kind) (a .command) (a .received) b (a .«extra_reported») d q x
+
+module _ (mine : Use → Bool) (q : mine use-for.Quiet ≡ false) (x : mine use-for.Extra ≡ false) (b : ℕ) (area : Area) (l : List ℕ) where
+  deaf-taken : (c : Current) → deaf c ≡ true → takenBy mine c b area l ≡ l
+  deaf-taken current.Idle d = refl
+  deaf-taken current.Ignoring d = refl
+  deaf-taken (current.Active a) d = ap (λ (t : Bool). pick t (putAt area (a .cursor) b l) l) (deaf-mine mine q x a b d)
+
+pub plane-quiet : (mine : Use → Bool) → mine use-for.Quiet ≡ false → mine use-for.Extra ≡ false → (b : ℕ) (p : Uc8253) (l : List ℕ)
+    → GuardedIn p → busy (p .operation .work) ≡ true → planeByte mine b p l ≡ l
+unfolding planeByte
+plane-quiet mine q x b p l g r = deaf-taken mine q x b (writtenOf (p .regs)) l (p .stage .current) (g .runs r)
+
+-- where a byte is taken, nothing runs
+pub taken-free : (n : Params) (a : Active) (p : Uc8253) → GuardedIn p → p .stage .current ≡ current.Active a → a .kind ≡ kind.Write n
+    → takesByte (a .kind) (a .received) ≡ true → busy (p .operation .work) ≡ false
+taken-free n a p g e k t =
+    by-cases (busy (p .operation .work))
+    (λ r. absurd (true≢false (sym t ∙ ap (λ (x : Kind). takesByte x (a .received)) k
+    ∙ full-takes n (a .received) (ap (λ (x : Kind). spent x (a .received)) (sym k) ∙ ap deaf (sym e) ∙ g .runs r))))
+    (λ r. r)
 
 -- ---- a read
-spared-missed-by : (r : Read) (a : Active) (w v : World) → Spared w v → Spared w (missedBy r a v)
-unfolding tell
-spared-missed-by (Byte b) a w v s = s
-spared-missed-by Nothing a w v s = both (Spared w) (eqb (a .read) 0) (record { guarded = s .guarded; same = s .same }) s
+spared-after-read : (k : Kind) (a : Active) (p : Uc8253) → GuardedIn p → Under (current.Active a) p → Spared p (afterRead k a p)
+spared-after-read (kind.Write n) a p g h = spared-whole p g
+spared-after-read kind.Read a p g h =
+    record { guarded = record { alone = h .alone; low = h .low; runs = h .runs; once = h .once }; same = λ e. refl }
+spared-after-read (kind.Unsupported n) a p g h = spared-whole p g
+spared-after-read kind.Unknown a p g h = spared-whole p g
 
-spared-after-read : (k : Kind) (a : Active) (w : World) → GuardedIn w → Under (current.Active a) w → Spared w (afterRead k a w)
-spared-after-read (kind.Write n) a w g h = spared-whole w g
-spared-after-read kind.Read a w g h =
-    spared-missed-by (drivenByte (w .chip .config .variant) (w .chip) (a .command) (a .read)) a w
-    (onChip (withCurrent (current.Active (readMore a))) w)
-    (record { guarded = record { alone = h .alone; low = h .low; runs = h .runs; once = h .once }; same = λ e. refl })
-spared-after-read (kind.Unsupported n) a w g h = spared-whole w g
-spared-after-read kind.Unknown a w g h = spared-whole w g
+spared-reading-by : (x : Current) (p : Uc8253) → GuardedIn p → Under x p → Spared p (readingBy x p)
+spared-reading-by current.Idle p g h = spared-whole p g
+spared-reading-by current.Ignoring p g h = spared-whole p g
+spared-reading-by (current.Active a) p g h = spared-after-read (a .kind) a p g h
 
-spared-reading-by : (x : Current) (w : World) → GuardedIn w → Under x w → Spared w (readingBy x w)
-spared-reading-by current.Idle w g h = spared-whole w g
-spared-reading-by current.Ignoring w g h = spared-whole w g
-spared-reading-by (current.Active a) w g h = spared-after-read (a .kind) a w g h
-
-pub spared-reading : (w : World) → GuardedIn w → Spared w (byte.reading w)
+pub spared-reading : (p : Uc8253) → GuardedIn p → Spared p (byte.reading p)
 unfolding byte.reading
-spared-reading w g = spared-reading-by (w .chip .stage .current) w g g
+spared-reading p g = spared-reading-by (p .stage .current) p g g
 
 -- ---- the reset line
-guarded-lowered-by : (y : Power) (w : World) → GuardedIn w → GuardedIn (loweredBy own y w)
+guarded-lowered-by : (y : Power) (p : Uc8253) → GuardedIn p → GuardedIn (loweredBy y p)
 unfolding cleared
-guarded-lowered-by power.Running w g = guarded-idle
-guarded-lowered-by power.Asleep w g = guarded-idle
-guarded-lowered-by power.InReset w g = g
+guarded-lowered-by power.Running p g = guarded-idle
+guarded-lowered-by power.Asleep p g = guarded-idle
+guarded-lowered-by power.InReset p g = g
 
-pub guarded-asserted : (w : World) → GuardedIn w → GuardedIn (resetEdge own true w)
+pub guarded-asserted : (p : Uc8253) → GuardedIn p → GuardedIn (resetEdge own true p)
 unfolding resetEdge
-guarded-asserted w g = guarded-lowered-by (w .chip .mode .power) w g
+guarded-asserted p g = guarded-lowered-by (p .mode .power) p g
 
 -- released it starts an operation only where it was low, and nothing ran there
-spared-raised-by : (y : Power) (w : World) → w .chip .mode .power ≡ y → GuardedIn w → Spared w (raisedBy own y w)
-spared-raised-by power.Running w e g = spared-whole w g
-spared-raised-by power.Asleep w e g = spared-whole w g
-spared-raised-by power.InReset w e g =
-    spared-free w _ (g .alone (ap inReset e)) (awake-deaf refl (g .low (ap inReset e)) (g .once))
+spared-raised-by : (y : Power) (p : Uc8253) → p .mode .power ≡ y → GuardedIn p → Spared p (raisedBy own y p)
+spared-raised-by power.Running p e g = spared-whole p g
+spared-raised-by power.Asleep p e g = spared-whole p g
+spared-raised-by power.InReset p e g =
+    spared-free p _ (g .alone (ap inReset e)) (awake-deaf refl (g .low (ap inReset e)) (g .once))
 
-pub spared-released : (w : World) → GuardedIn w → Spared w (resetEdge own false w)
+pub spared-released : (p : Uc8253) → GuardedIn p → Spared p (resetEdge own false p)
 unfolding resetEdge
-spared-released w g = spared-raised-by (w .chip .mode .power) w refl g
+spared-released p g = spared-raised-by (p .mode .power) p refl g
+
+-- ---- every call keeps the invariant
+pub guarded-after : (a : Ask) (p : Uc8253) → GuardedIn p → GuardedIn (recordAfter own a p)
+unfolding recordAfter
+guarded-after (command t c) p g = spared-command c (arrived t p) (guarded-arrived t p g) .guarded
+guarded-after (datum t b) p g = spared-data b (arrived t p) (guarded-arrived t p g) .guarded
+guarded-after (reading t) p g = spared-reading (arrived t p) (guarded-arrived t p g) .guarded
+guarded-after (advance t) p g = guarded-arrived t p g
+guarded-after (reset t true) p g = guarded-asserted (arrived t p) (guarded-arrived t p g)
+guarded-after (reset t false) p g = spared-released (arrived t p) (guarded-arrived t p g) .guarded
+guarded-after (vcomRule t x) p g = guarded-arrived t p g
+guarded-after taking p g = g
+guarded-after (askBusy t) p g = g
+guarded-after askDeadline p g = g
+guarded-after (askBit older x y) p g = g
+guarded-after (askRow y) p g = g
+guarded-after (askPicture top wide) p g = g
 
 -- ---- making
-pub guarded-made : (c : Uc8253Config) (b : Buffers) → GuardedIn (world (firstChip c) b)
+pub guarded-made : (c : Uc8253Config) → GuardedIn (firstChip c)
 unfolding firstChip
-guarded-made c b = guarded-idle
+guarded-made c = guarded-idle

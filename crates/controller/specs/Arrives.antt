@@ -10,14 +10,13 @@ use Rattle.controller.specs.declared.Work.{Work}
 use Rattle.controller.specs.declared.Work.the-variants as work
 use Rattle.controller.specs.declared.Operation.{Operation}
 use Rattle.controller.specs.declared.Uc8253.{Uc8253}
-use Rattle.controller.specs.World.{World, onChip}
 use Rattle.controller.specs.Setters.{withNow, withOperation, withPower, withPowered}
 use Rattle.controller.specs.Refresh.{endedRefresh}
 use Rattle.controller.specs.Counting.{Counting}
 
 -- the clock becomes the larger of itself and the time given
-abbrev pub timed : ℕ → World → World
-timed t w = onChip (λ p. withNow (max (p .now) t) p) w
+abbrev pub timed : ℕ → Uc8253 → Uc8253
+timed t p = withNow (max (p .now) t) p
 
 -- nothing runs
 abbrev pub rest : Operation
@@ -28,22 +27,22 @@ abbrev pub starting : (Uc8253 → Counting) → Work → ℕ → Uc8253 → Uc82
 starting clock x ns p = withOperation (record { work = x; started = p .now; until = min (p .now + clock p .cycles ns) top }) p
 
 -- the end of each: 04 has brought the supplies up, 02 has taken them down, 07 sleeps without them; the resets leave all as it is
-abbrev pub endedBy : Work → World → World
-endedBy work.Nothing w = w
-endedBy work.PowerOn w = onChip (λ p. withOperation rest (withPowered true p)) w
-endedBy work.PowerOff w = onChip (λ p. withOperation rest (withPowered false p)) w
-endedBy work.DeepSleep w = onChip (λ p. withOperation rest (withPower power.Asleep (withPowered false p))) w
-endedBy work.SoftReset w = onChip (withOperation rest) w
-endedBy work.HardwareReset w = onChip (withOperation rest) w
-endedBy (work.Refresh r) w = onChip (withOperation rest) (endedRefresh r w)
+abbrev pub endedBy : Work → Uc8253 → Uc8253
+endedBy work.Nothing p = p
+endedBy work.PowerOn p = withOperation rest (withPowered true p)
+endedBy work.PowerOff p = withOperation rest (withPowered false p)
+endedBy work.DeepSleep p = withOperation rest (withPower power.Asleep (withPowered false p))
+endedBy work.SoftReset p = withOperation rest p
+endedBy work.HardwareReset p = withOperation rest p
+endedBy (work.Refresh r) p = withOperation rest (endedRefresh r p)
 
 -- an operation whose end is at or below the clock ends, once
-unfoldable pub ended : World → World
-ended w = pick (leb (w .chip .operation .until) (w .chip .now)) (endedBy (w .chip .operation .work) w) w
+unfoldable pub ended : Uc8253 → Uc8253
+ended p = pick (leb (p .operation .until) (p .now)) (endedBy (p .operation .work) p) p
 
 -- before anything else
-unfoldable pub arrived : ℕ → World → World
-arrived t w = ended (timed t w)
+unfoldable pub arrived : ℕ → Uc8253 → Uc8253
+arrived t p = ended (timed t p)
 
 -- an operation's end lies above the time asked
 abbrev pub works : Work → ℕ → ℕ → Bool

@@ -1,5 +1,4 @@
--- The calls: refused first, with the record given back and no lent entry changed;
--- else the clock, what has come to its end, and then the call's own.
+-- What the calls answer and by which number they are turned back, and making.
 use mathlib.Core.Bool.{Bool, true, false, _&&_}
 use mathlib.Core.List.{List, []}
 use Prim.Native.Nat.{ℕ, _*_}
@@ -21,7 +20,6 @@ use Rattle.waveform.specs.Frames.{blank}
 use Rattle.ram.specs.declared.Found.{Found}
 use Rattle.ram.specs.declared.Found.the-variants as found
 use Rattle.ram.specs.Found.{ramBit}
-use Rattle.log.specs.Log.{logEmptied}
 use Rattle.controller.specs.declared.Power.the-variants as power
 use Rattle.controller.specs.declared.Work.{Work}
 use Rattle.controller.specs.declared.Work.the-variants as work
@@ -31,49 +29,18 @@ use Rattle.controller.specs.declared.reads.Read.{Read}
 use Rattle.controller.specs.declared.reads.Read.the-variants.{Nothing}
 use Rattle.controller.specs.declared.Due.{Due}
 use Rattle.controller.specs.declared.Due.the-variants as due
-use Rattle.controller.specs.World.{World, Buffers, world, onChip}
-use Rattle.controller.specs.Setters.{withLog, withVcomRule}
+use Rattle.controller.specs.World.{World, Buffers, world}
 use Rattle.controller.specs.TurnedBack.{foreignRecord, turnedBack, makingRefused, lentRefused}
 use Rattle.controller.specs.Arrives.{arrived, rest, busyAt}
-use Rattle.controller.specs.Command.{commandByte}
-use Rattle.controller.specs.DataByte.{dataByte}
-use Rattle.controller.specs.Reading.{reading, readOf}
-use Rattle.controller.specs.Reset.{resetEdge}
-use Rattle.controller.specs.Counting.{Counting}
-
--- a later call at a time
-unfoldable pub called : Bool → ℕ → (World → World) → World → World
-called asserted t f w = pick (eqb (turnedBack asserted t w) 0) (f (arrived t w)) w
-
-abbrev pub commandCall : (Uc8253 → Counting) → ℕ → ℕ → World → World
-commandCall clock t c w = called false t (commandByte clock c) w
-
-abbrev pub dataCall : (Uc8253 → Counting) → ℕ → ℕ → World → World
-dataCall clock t b w = called false t (dataByte clock b) w
-
-abbrev pub readCall : ℕ → World → World
-readCall t w = called false t reading w
+use Rattle.controller.specs.Reading.{readOf}
 
 -- a refused read gives none
 unfoldable pub readAnswer : ℕ → World → Read
-readAnswer t w = pick (eqb (turnedBack false t w) 0) (readOf (arrived t w .chip)) Nothing
-
-abbrev pub resetCall : (Uc8253 → Counting) → ℕ → Bool → World → World
-resetCall clock t asserted w = called asserted t (resetEdge clock asserted) w
-
--- event kind 6: an advance, and then VCOM's rule is the one given (true: rule 2); it closes no command (2026-08)
-abbrev pub vcomCall : ℕ → Bool → World → World
-vcomCall t byFrame w = called false t (onChip (withVcomRule byFrame)) w
-
-abbrev pub advanceCall : ℕ → World → World
-advanceCall t w = called false t (λ v. v) w
+readAnswer t w = pick (eqb (turnedBack false t w) 0) (readOf (arrived t (w .chip))) Nothing
 
 -- taking the rows: 6, then 5 for the rows; stored becomes 0, and the call says how many rows there were
 unfoldable pub takingRefused : Uc8253 → List ℕ → ℕ
 takingRefused p rows = lentRefused p (eqb (length rows) 5120)
-
-unfoldable pub takeCall : World → World
-takeCall w = pick (eqb (takingRefused (w .chip) (w .lent .rows)) 0) (onChip (λ p. withLog (logEmptied (p .log)) p) w) w
 
 unfoldable pub takenRows : Uc8253 → List ℕ → ℕ
 takenRows p rows = pick (eqb (takingRefused p rows) 0) (p .log .stored) 0
@@ -195,7 +162,7 @@ zeros = untouched noConfig noRegisters
 unfoldable pub firstChip : Uc8253Config → Uc8253
 firstChip c = untouched c (resetOf (c .variant))
 
--- every state full swing × initial grey / 255, the picture the initial grey, and planes, table numbers and diagnostics zero
+-- every state full swing × initial grey / 255, the picture the initial grey, and planes and diagnostics zero
 unfoldable pub firstBuffers : Uc8253Config → Buffers
 firstBuffers c =
     let pixels = c .panel .sources * c .panel .gates in
@@ -203,7 +170,6 @@ firstBuffers c =
       old = replicate 60000 0;
       new = replicate 60000 0;
       states = replicate pixels (pos (levelOf (c .optics .«initial_gray») (c .optics .«full_swing»)));
-      numbers = replicate pixels 0;
       picture = replicate pixels (c .optics .«initial_gray»);
       rows = replicate 5120 0;
     }

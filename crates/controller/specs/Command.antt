@@ -3,6 +3,7 @@ use mathlib.Core.Bool.{Bool, true, false, _||_}
 use mathlib.Core.List.{[], _∷_}
 use Prim.Native.Nat.{ℕ}
 use lib.Dec.{eqb, ltb}
+use lib.ListN.{getD}
 use Rattle.base.specs.Pick.{pick, oneOf, between}
 use Rattle.registers.specs.declared.Registers.{Registers}
 use Rattle.registers.specs.Written.{writtenOf}
@@ -21,11 +22,9 @@ use Rattle.controller.specs.declared.Current.the-variants as current
 use Rattle.controller.specs.declared.Uc8253.{Uc8253}
 use Rattle.controller.specs.declared.notes.Note.{Note}
 use Rattle.controller.specs.declared.notes.Note.the-variants.{Quiet, Told}
-use Rattle.controller.specs.World.{World, onChip}
 use Rattle.controller.specs.Setters.{withCurrent, withRegs, withDataFlag}
-use Rattle.controller.specs.Tell.{tell, told}
 use Rattle.controller.specs.Arrives.{starting}
-use Rattle.controller.specs.Refresh.{refreshed}
+use Rattle.controller.specs.Refresh.{refreshNote, refreshed}
 use Rattle.controller.specs.Counting.{Counting}
 
 -- kind 5 below its least count, else kind 13 for 20 to 24 unless 42 bytes came. The extra-byte rule comes first (2026-02): kind 13 is
@@ -37,17 +36,14 @@ closingNote a =
     (pick (a .«extra_reported») Quiet (pick (eqb (a .received) 42) Quiet (Told (LutLength (a .command) (a .received)))))
     Quiet)
 
-abbrev pub ignoring : World → World
-ignoring w = onChip (withCurrent current.Ignoring) w
+-- the previous command closes: nothing but what is told of it
+abbrev pub closeNote : Current → Note
+closeNote current.Idle = Quiet
+closeNote current.Ignoring = Quiet
+closeNote (current.Active a) = closingNote a
 
--- the previous command closes
-abbrev pub closedBy : Current → World → World
-closedBy current.Idle w = w
-closedBy current.Ignoring w = w
-closedBy (current.Active a) w = ignoring (told (closingNote a) w)
-
-unfoldable pub closed : World → World
-closed w = closedBy (w .chip .stage .current) w
+abbrev pub ignoring : Uc8253 → Uc8253
+ignoring p = withCurrent current.Ignoring p
 
 -- the reset line is low; deep sleep; a soft or hardware reset runs; anything runs
 abbrev pub inReset : Power → Bool
@@ -115,31 +111,43 @@ withPartial x r = record {
 }
 
 -- 04 acts with power off, 02 with power on; 12 is a refresh; 11 sets the data flag, 10 and 13 clear it
-unfoldable pub executed : (Uc8253 → Counting) → ℕ → World → World
-executed clock c w =
-    pick (eqb c 0x04) (pick (w .chip .mode .powered) w (onChip (starting clock work.PowerOn (w .chip .config .timing .«power_on»)) w))
-    (pick (eqb c 0x02) (pick (w .chip .mode .powered) (onChip (starting clock work.PowerOff (w .chip .config .timing .«power_off»)) w) w)
-    (pick (eqb c 0x12) (refreshed clock w)
-    (pick (eqb c 0x91) (onChip (withRegs (withPartial true (w .chip .regs))) w)
-    (pick (eqb c 0x92) (onChip (withRegs (withPartial false (w .chip .regs))) w)
-    (pick (oneOf (0x10 ∷ 0x13 ∷ []) c) (onChip (withDataFlag false) w)
-    (pick (eqb c 0x11) (onChip (withDataFlag true) w)
-    w))))))
+unfoldable pub executed : (Uc8253 → Counting) → ℕ → Uc8253 → Uc8253
+executed clock c p =
+    pick (eqb c 0x04) (pick (p .mode .powered) p (starting clock work.PowerOn (p .config .timing .«power_on») p))
+    (pick (eqb c 0x02) (pick (p .mode .powered) (starting clock work.PowerOff (p .config .timing .«power_off») p) p)
+    (pick (eqb c 0x12) (refreshed clock p)
+    (pick (eqb c 0x91) (withRegs (withPartial true (p .regs)) p)
+    (pick (eqb c 0x92) (withRegs (withPartial false (p .regs)) p)
+    (pick (oneOf (0x10 ∷ 0x13 ∷ []) c) (withDataFlag false p)
+    (pick (eqb c 0x11) (withDataFlag true p)
+    p))))))
 
--- unknown, kind 1, and data is ignored; 15, 17, A0 and A1, kind 2, and data is only counted
-abbrev pub sortedBy : (Uc8253 → Counting) → Kind → ℕ → World → World
-sortedBy clock kind.Unknown c w = ignoring (tell (UnknownCommand c) w)
-sortedBy clock (kind.Unsupported n) c w = onChip (begun c (kind.Unsupported n)) (tell (UnsupportedCommand c) w)
-sortedBy clock (kind.Write n) c w = executed clock c (onChip (begun c (kind.Write n)) w)
-sortedBy clock kind.Read c w = executed clock c (onChip (begun c kind.Read) w)
+-- unknown: data is ignored; 15, 17, A0 and A1: it is only counted
+abbrev pub sortedBy : (Uc8253 → Counting) → Kind → ℕ → Uc8253 → Uc8253
+sortedBy clock kind.Unknown c p = ignoring p
+sortedBy clock (kind.Unsupported n) c p = begun c (kind.Unsupported n) p
+sortedBy clock (kind.Write n) c p = executed clock c (begun c (kind.Write n) p)
+sortedBy clock kind.Read c p = executed clock c (begun c kind.Read p)
 
 -- after 6, 7 or 8 data is ignored
-abbrev pub passedBy : (Uc8253 → Counting) → Note → ℕ → World → World
-passedBy clock (Told k) c w = ignoring (tell k w)
-passedBy clock Quiet c w = sortedBy clock (kindOf c (w .chip .config .variant)) c w
+abbrev pub passedBy : (Uc8253 → Counting) → Note → ℕ → Uc8253 → Uc8253
+passedBy clock (Told k) c p = ignoring p
+passedBy clock Quiet c p = sortedBy clock (kindOf c (p .config .variant)) c p
 
-unfoldable pub passed : (Uc8253 → Counting) → ℕ → World → World
-passed clock c w = passedBy clock (barredNote (w .chip .mode .power) (w .chip .operation .work) c) c w
+-- a command byte
+unfoldable pub commandByte : (Uc8253 → Counting) → ℕ → Uc8253 → Uc8253
+commandByte clock c p = passedBy clock (barredNote (p .mode .power) (p .operation .work) c) c p
 
-unfoldable pub commandByte : (Uc8253 → Counting) → ℕ → World → World
-commandByte clock c w = passed clock c (closed w)
+-- what it tells itself: 8, 7 or 6; unknown, kind 1; 15, 17, A0 and A1, kind 2; a refresh that is refused
+abbrev pub sortNote : Kind → ℕ → Uc8253 → Note
+sortNote kind.Unknown c p = Told (UnknownCommand c)
+sortNote (kind.Unsupported n) c p = Told (UnsupportedCommand c)
+sortNote (kind.Write n) c p = pick (eqb c 0x12) (refreshNote (getD (p .regs .psr) 0 0) (p .mode .powered)) Quiet
+sortNote kind.Read c p = Quiet
+
+abbrev pub passNote : Note → ℕ → Uc8253 → Note
+passNote (Told k) c p = Told k
+passNote Quiet c p = sortNote (kindOf c (p .config .variant)) c p
+
+unfoldable pub commandNote : ℕ → Uc8253 → Note
+commandNote c p = passNote (barredNote (p .mode .power) (p .operation .work) c) c p

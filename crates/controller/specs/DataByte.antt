@@ -1,5 +1,6 @@
 -- Document 01, "A data byte".
-use mathlib.Core.Bool.{true, false}
+use mathlib.Core.Bool.{Bool, true, false}
+use mathlib.Core.List.{List}
 use Prim.Native.Nat.{ℕ, _+_, min}
 use lib.Dec.{eqb, ltb}
 use Rattle.base.specs.Pick.{pick}
@@ -8,6 +9,7 @@ use Rattle.registers.specs.Luts.{resetLuts, lutByteOf}
 use Rattle.registers.specs.Reset.{resetOf}
 use Rattle.registers.specs.Flags.{bitSet}
 use Rattle.registers.specs.Written.{writtenOf}
+use Rattle.registers.specs.declared.Area.{Area}
 use Rattle.ram.specs.declared.Cursor.{Cursor}
 use Rattle.ram.specs.Write.{written, nextOf}
 use Rattle.command.specs.declared.kinds.Kind.{Kind}
@@ -20,11 +22,11 @@ use Rattle.controller.specs.declared.Active.{Active}
 use Rattle.controller.specs.declared.Current.{Current}
 use Rattle.controller.specs.declared.Current.the-variants as current
 use Rattle.controller.specs.declared.Uc8253.{Uc8253}
+use Rattle.controller.specs.declared.notes.Note.{Note}
+use Rattle.controller.specs.declared.notes.Note.the-variants.{Quiet, Told}
 use Rattle.controller.specs.declared.uses.Use.{Use}
 use Rattle.controller.specs.declared.uses.Use.the-variants as use-for
-use Rattle.controller.specs.World.{World, world, onChip}
-use Rattle.controller.specs.Setters.{withCurrent, withRegs, withLuts, withPowered, withOld, withNew}
-use Rattle.controller.specs.Tell.{tell}
+use Rattle.controller.specs.Setters.{withCurrent, withRegs, withLuts, withPowered}
 use Rattle.controller.specs.Arrives.{starting}
 use Rattle.controller.specs.Command.{ignoring}
 use Rattle.controller.specs.Counting.{Counting}
@@ -123,22 +125,15 @@ under a p = withCurrent (current.Active a) p
 unfoldable pub pixelChip : Active → Uc8253 → Uc8253
 pixelChip a p = under (movedTo (nextOf (writtenOf (p .regs)) (a .cursor)) a) p
 
--- past the last row, kind 10 once
-unfoldable pub pastWindow : Active → World → World
-pastWindow a w = pick (a .«past_reported») (onChip (under a) w) (onChip (under (pastOf a)) (tell (PastTheWindow (a .command)) w))
+-- past the last row nothing is put
+abbrev pub pastRow : Area → Cursor → Bool
+pastRow area c = ltb (area .y1) (c .y)
 
--- 10 puts eight bits from the cursor into the old plane, 13 into the new one
-unfoldable pub olderByte : Active → ℕ → World → World
-olderByte a b w =
-    let area = writtenOf (w .chip .regs) in
-    pick (ltb (area .y1) (a .cursor .y)) (pastWindow a w)
-    (world (pixelChip a (w .chip)) (withOld (written (w .lent .old) area (a .cursor .x) (a .cursor .y) b) (w .lent)))
+unfoldable pub pastNote : Active → Uc8253 → Note
+pastNote a p = pick (pastRow (writtenOf (p .regs)) (a .cursor)) (pick (a .«past_reported») Quiet (Told (PastTheWindow (a .command)))) Quiet
 
-unfoldable pub newerByte : Active → ℕ → World → World
-newerByte a b w =
-    let area = writtenOf (w .chip .regs) in
-    pick (ltb (area .y1) (a .cursor .y)) (pastWindow a w)
-    (world (pixelChip a (w .chip)) (withNew (written (w .lent .new) area (a .cursor .x) (a .cursor .y) b) (w .lent)))
+unfoldable pub pixelByte : Active → Uc8253 → Uc8253
+pixelByte a p = pick (pastRow (writtenOf (p .regs)) (a .cursor)) (under (pastOf a) p) (pixelChip a p)
 
 -- registers reset, power off, soft reset
 abbrev pub softReset : (Uc8253 → Counting) → Uc8253 → Uc8253
@@ -152,21 +147,75 @@ registerByte a b p =
     (withRegs (byteOf (a .command) (a .received) b (p .regs)) p)
 
 -- what the byte does, which is number `received` of a
-abbrev pub usedBy : (Uc8253 → Counting) → Use → Active → ℕ → World → World
-usedBy clock use-for.Extra a b w = onChip (under (extraOf (moreOf a))) (tell (ExtraData (a .command)) w)
-usedBy clock use-for.Quiet a b w = onChip (under (moreOf a)) w
-usedBy clock use-for.Soft a b w = onChip (λ p. under (softOf (moreOf a)) (softReset clock p)) w
-usedBy clock use-for.Sleep a b w = onChip (λ p. under (moreOf a) (starting clock work.DeepSleep (p .config .timing .«deep_sleep») p)) w
-usedBy clock use-for.Wrong a b w = onChip (under (moreOf a)) (tell (WrongCheckCode b) w)
-usedBy clock use-for.Register a b w = onChip (λ p. under (moreOf a) (registerByte a b p)) w
-usedBy clock use-for.Older a b w = olderByte (moreOf a) b w
-usedBy clock use-for.Newer a b w = newerByte (moreOf a) b w
+abbrev pub usedBy : (Uc8253 → Counting) → Use → Active → ℕ → Uc8253 → Uc8253
+usedBy clock use-for.Extra a b p = under (extraOf (moreOf a)) p
+usedBy clock use-for.Quiet a b p = under (moreOf a) p
+usedBy clock use-for.Soft a b p = under (softOf (moreOf a)) (softReset clock p)
+usedBy clock use-for.Sleep a b p = under (moreOf a) (starting clock work.DeepSleep (p .config .timing .«deep_sleep») p)
+usedBy clock use-for.Wrong a b p = under (moreOf a) p
+usedBy clock use-for.Register a b p = under (moreOf a) (registerByte a b p)
+usedBy clock use-for.Older a b p = pixelByte (moreOf a) p
+usedBy clock use-for.Newer a b p = pixelByte (moreOf a) p
 
--- with no command since making or a reset by pin: kind 3, once, then ignored
-abbrev pub givenBy : (Uc8253 → Counting) → Current → ℕ → World → World
-givenBy clock current.Idle b w = ignoring (tell (DataWithoutCommand b) w)
-givenBy clock current.Ignoring b w = w
-givenBy clock (current.Active a) b w = usedBy clock (purposeOf a b) a b w
+-- with no command since making or a reset by pin it is ignored, and so are later ones
+abbrev pub givenBy : (Uc8253 → Counting) → Current → ℕ → Uc8253 → Uc8253
+givenBy clock current.Idle b p = ignoring p
+givenBy clock current.Ignoring b p = p
+givenBy clock (current.Active a) b p = usedBy clock (purposeOf a b) a b p
 
-unfoldable pub dataByte : (Uc8253 → Counting) → ℕ → World → World
-dataByte clock b w = givenBy clock (w .chip .stage .current) b w
+unfoldable pub dataByte : (Uc8253 → Counting) → ℕ → Uc8253 → Uc8253
+dataByte clock b p = givenBy clock (p .stage .current) b p
+
+-- what it tells: beyond the largest count, kind 4; 07 without A5, kind 9; past the last row, kind 10 once
+abbrev pub usedNote : Use → Active → ℕ → Uc8253 → Note
+usedNote use-for.Extra a b p = Told (ExtraData (a .command))
+usedNote use-for.Quiet a b p = Quiet
+usedNote use-for.Soft a b p = Quiet
+usedNote use-for.Sleep a b p = Quiet
+usedNote use-for.Wrong a b p = Told (WrongCheckCode b)
+usedNote use-for.Register a b p = Quiet
+usedNote use-for.Older a b p = pastNote a p
+usedNote use-for.Newer a b p = pastNote a p
+
+-- with no command since making or a reset by pin, kind 3
+abbrev pub givenNote : Current → ℕ → Uc8253 → Note
+givenNote current.Idle b p = Told (DataWithoutCommand b)
+givenNote current.Ignoring b p = Quiet
+givenNote (current.Active a) b p = usedNote (purposeOf a b) a b p
+
+unfoldable pub dataNote : ℕ → Uc8253 → Note
+dataNote b p = givenNote (p .stage .current) b p
+
+-- eight bits from the cursor, highest first, only inside the written area
+unfoldable pub putAt : Area → Cursor → ℕ → List ℕ → List ℕ
+putAt area c b l = pick (pastRow area c) l (written l area (c .x) (c .y) b)
+
+-- 10 and 13 put them only in their own plane
+abbrev pub forOld : Use → Bool
+forOld use-for.Extra = false
+forOld use-for.Quiet = false
+forOld use-for.Soft = false
+forOld use-for.Sleep = false
+forOld use-for.Wrong = false
+forOld use-for.Register = false
+forOld use-for.Older = true
+forOld use-for.Newer = false
+
+abbrev pub forNew : Use → Bool
+forNew use-for.Extra = false
+forNew use-for.Quiet = false
+forNew use-for.Soft = false
+forNew use-for.Sleep = false
+forNew use-for.Wrong = false
+forNew use-for.Register = false
+forNew use-for.Older = false
+forNew use-for.Newer = true
+
+-- a plane after a data byte, of which the plane takes those of some uses
+abbrev pub takenBy : (Use → Bool) → Current → ℕ → Area → List ℕ → List ℕ
+takenBy mine current.Idle b area l = l
+takenBy mine current.Ignoring b area l = l
+takenBy mine (current.Active a) b area l = pick (mine (purposeOf a b)) (putAt area (a .cursor) b l) l
+
+unfoldable pub planeByte : (Use → Bool) → ℕ → Uc8253 → List ℕ → List ℕ
+planeByte mine b p l = takenBy mine (p .stage .current) b (writtenOf (p .regs)) l

@@ -1,4 +1,4 @@
--- What a contract says of a call over the six lent slices. Each name is an `abbrev`, so a contract that cites it says what it stands for.
+-- What a contract says of a call over the five lent slices. Each name is an `abbrev`, so a contract that cites it says what it stands for.
 use mathlib.Core.Path.{_≡_}
 use mathlib.Core.List.{List}
 use Prim.Native.Nat.{ℕ}
@@ -19,39 +19,33 @@ Slice X = RefT (List X)
 abbrev pub Lent : Type 0 → Type 0
 Lent X = Both (Slice X) (Slice X)
 
--- a list that the function is not lent, and so leaves as it is; nothing reads its pointer and its name
-abbrev pub kept : {X : Type 0} → List X → Lent X
-kept l =
-    let x : Slice _ = record { ptr = (0, 0); name = 0; now = l } in
-    record { entry = x; exit = x }
-
--- the old plane, the new, the states, the table numbers, the picture and the rows
+-- the old plane, the new, the states, the picture and the rows
 abbrev pub Over {ℓ} : Type ℓ → Type ℓ
-Over A = Lent ℕ → Lent ℕ → Lent ℤ → Lent ℕ → Lent ℕ → Lent ℕ → A
+Over A = Lent ℕ → Lent ℕ → Lent ℤ → Lent ℕ → Lent ℕ → A
 
 -- all that is lent: in a requires; in an ensures, before the call and after it
-abbrev pub lent : Slice ℕ → Slice ℕ → Slice ℤ → Slice ℕ → Slice ℕ → Slice ℕ → Buffers
-lent old new states numbers picture rows = buffers (now old) (now new) (now states) (now numbers) (now picture) (now rows)
+abbrev pub lent : Slice ℕ → Slice ℕ → Slice ℤ → Slice ℕ → Slice ℕ → Buffers
+lent old new states picture rows = buffers (now old) (now new) (now states) (now picture) (now rows)
 
 abbrev pub before : Over Buffers
-before old new states numbers picture rows = lent (old .entry) (new .entry) (states .entry) (numbers .entry) (picture .entry) (rows .entry)
+before old new states picture rows = lent (old .entry) (new .entry) (states .entry) (picture .entry) (rows .entry)
 
 abbrev pub after : Over Buffers
-after old new states numbers picture rows = lent (old .exit) (new .exit) (states .exit) (numbers .exit) (picture .exit) (rows .exit)
+after old new states picture rows = lent (old .exit) (new .exit) (states .exit) (picture .exit) (rows .exit)
 
 -- the record p becomes q, and what is lent what is left, as f has it
 abbrev pub Turns : (World → World) → Uc8253 → Uc8253 → Over (Type 0)
-Turns f p q old new states numbers picture rows =
-    world q (after old new states numbers picture rows) ≡ f (world p (before old new states numbers picture rows))
+Turns f p q old new states picture rows =
+    world q (after old new states picture rows) ≡ f (world p (before old new states picture rows))
 
 -- x is what g says of the record p and what is lent
 abbrev pub Gives : {A : Type 0} → (World → A) → Uc8253 → A → Over (Type 0)
-Gives g p x old new states numbers picture rows = x ≡ g (world p (before old new states numbers picture rows))
+Gives g p x old new states picture rows = x ≡ g (world p (before old new states picture rows))
 
 -- what is done to the record and what is lent, and by which refusal it is turned back
 abbrev pub Done : (World → World) → (World → ℕ) → Uc8253 → Uc8253 → Refusal → Over (Type 0)
-Done f number p q r old new states numbers picture rows =
-    Turns f p q old new states numbers picture rows × Gives number p (refusalNumber r) old new states numbers picture rows
+Done f number p q r old new states picture rows =
+    Turns f p q old new states picture rows × Gives number p (refusalNumber r) old new states picture rows
 
 -- a call of demand 3's lists
 abbrev pub Called : Ask → Uc8253 → Uc8253 → Refusal → Over (Type 0)
@@ -67,16 +61,10 @@ Asked a p b r x = (refusalNumber r ≡ refusedBy a (world p b)) × (x ≡ answer
 
 -- the same of a making, which is given no record
 abbrev pub Makes : (Buffers → World) → (Buffers → ℕ) → Uc8253 → Refusal → Over (Type 0)
-Makes f number q r old new states numbers picture rows =
-    (world q (after old new states numbers picture rows) ≡ f (before old new states numbers picture rows))
-    × (refusalNumber r ≡ number (before old new states numbers picture rows))
+Makes f number q r old new states picture rows =
+    (world q (after old new states picture rows) ≡ f (before old new states picture rows))
+    × (refusalNumber r ≡ number (before old new states picture rows))
 
--- the rows alone, or one plane and the rows, whatever else is lent
+-- the rows alone, whatever else is lent
 abbrev pub TurnsRows : (World → World) → Uc8253 → Uc8253 → Lent ℕ → Type 0
 TurnsRows f p q rows = (b : Buffers) → world q (withRows (now (rows .exit)) b) ≡ f (world p (withRows (now (rows .entry)) b))
-
-abbrev pub TurnsPlane : (List ℕ → Buffers → Buffers) → (World → World) → Uc8253 → Uc8253 → Lent ℕ → Lent ℕ → Type 0
-TurnsPlane put f p q plane rows =
-    (b : Buffers)
-    → world q (withRows (now (rows .exit)) (put (now (plane .exit)) b))
-    ≡ f (world p (withRows (now (rows .entry)) (put (now (plane .entry)) b)))

@@ -9,6 +9,8 @@ pub mod Reading
 pub mod Refresh
 pub mod TurnedBack
 pub mod Reset
+pub mod Planes
+pub mod Glass
 pub mod Sound
 pub mod Calls
 pub mod Ask

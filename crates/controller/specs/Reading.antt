@@ -12,11 +12,11 @@ use Rattle.controller.specs.declared.Active.{Active}
 use Rattle.controller.specs.declared.Current.{Current}
 use Rattle.controller.specs.declared.Current.the-variants as current
 use Rattle.controller.specs.declared.Uc8253.{Uc8253}
+use Rattle.controller.specs.declared.notes.Note.{Note}
+use Rattle.controller.specs.declared.notes.Note.the-variants.{Quiet, Told}
 use Rattle.controller.specs.declared.reads.Read.{Read}
 use Rattle.controller.specs.declared.reads.Read.the-variants.{Byte, Nothing}
-use Rattle.controller.specs.World.{World, onChip}
 use Rattle.controller.specs.Setters.{withCurrent}
-use Rattle.controller.specs.Tell.{tell}
 use Rattle.controller.specs.Arrives.{busyAt}
 
 -- the bits of `flags` (mod.rs): 6 under 91, 4 always, 3 the data flag, 2 power on, 1 power off, 0 not busy
@@ -72,23 +72,35 @@ readMore a = record {
   «past_reported» = a .«past_reported»;
 }
 
+abbrev pub afterRead : Kind → Active → Uc8253 → Uc8253
+afterRead (kind.Write n) a p = p
+afterRead kind.Read a p = withCurrent (current.Active (readMore a)) p
+afterRead (kind.Unsupported n) a p = p
+afterRead kind.Unknown a p = p
+
+abbrev pub readingBy : Current → Uc8253 → Uc8253
+readingBy current.Idle p = p
+readingBy current.Ignoring p = p
+readingBy (current.Active a) p = afterRead (a .kind) a p
+
+unfoldable pub reading : Uc8253 → Uc8253
+reading p = readingBy (p .stage .current) p
+
 -- a first read with no byte under a read command stores kind 14
-abbrev pub missedBy : Read → Active → World → World
-missedBy (Byte b) a w = w
-missedBy Nothing a w = pick (eqb (a .read) 0) (tell (NothingToRead (a .command)) w) w
+abbrev pub missedNote : Read → Active → Note
+missedNote (Byte b) a = Quiet
+missedNote Nothing a = pick (eqb (a .read) 0) (Told (NothingToRead (a .command))) Quiet
 
-abbrev pub afterRead : Kind → Active → World → World
-afterRead (kind.Write n) a w = w
-afterRead kind.Read a w =
-    missedBy (drivenByte (w .chip .config .variant) (w .chip) (a .command) (a .read)) a
-    (onChip (withCurrent (current.Active (readMore a))) w)
-afterRead (kind.Unsupported n) a w = w
-afterRead kind.Unknown a w = w
+abbrev pub underNote : Kind → Active → Uc8253 → Note
+underNote (kind.Write n) a p = Quiet
+underNote kind.Read a p = missedNote (drivenByte (p .config .variant) p (a .command) (a .read)) a
+underNote (kind.Unsupported n) a p = Quiet
+underNote kind.Unknown a p = Quiet
 
-abbrev pub readingBy : Current → World → World
-readingBy current.Idle w = w
-readingBy current.Ignoring w = w
-readingBy (current.Active a) w = afterRead (a .kind) a w
+abbrev pub readNoteBy : Current → Uc8253 → Note
+readNoteBy current.Idle p = Quiet
+readNoteBy current.Ignoring p = Quiet
+readNoteBy (current.Active a) p = underNote (a .kind) a p
 
-unfoldable pub reading : World → World
-reading w = readingBy (w .chip .stage .current) w
+unfoldable pub readNote : Uc8253 → Note
+readNote p = readNoteBy (p .stage .current) p

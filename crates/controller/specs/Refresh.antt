@@ -1,38 +1,30 @@
--- Document 01, "A refresh": what refuses it, its start, and its end on the glass.
+-- Document 01, "A refresh": what refuses it, its start, and its end in the record. What its end does to the glass is in Glass.
 use mathlib.Core.Bool.{Bool, true, false}
 use mathlib.Core.List.{List}
 use Prim.Native.Nat.{ℕ, _+_, _-_, _/_, _%_, min}
-use lib.ListN.{getD, take}
-use lib.IntN.{ℤ, pos}
+use lib.ListN.{getD}
+use lib.IntN.{ℤ}
 use Rattle.base.specs.Word.{top}
 use Rattle.base.specs.Pick.{pick}
-use Rattle.base.specs.Integer.{up}
-use Rattle.glass.specs.Walk.{walk}
 use Rattle.glass.specs.declared.PanelImage.{PanelImage}
 use Rattle.glass.specs.declared.RefreshKind.{RefreshKind}
 use Rattle.glass.specs.declared.RefreshKind.the-variants.{Full, Partial}
 use Rattle.diagnostic.specs.declared.DiagnosticKind.the-variants.{RefreshNotModelled, RefreshWithoutPower}
-use Rattle.registers.specs.Flags.{bitSet, copiesNewToOld}
+use Rattle.registers.specs.Flags.{bitSet}
 use Rattle.registers.specs.Written.{writtenOf}
-use Rattle.ram.specs.Copy.{copied}
 use Rattle.waveform.specs.declared.Waveform.{Waveform}
 use Rattle.waveform.specs.Levels.{levelsOf}
 use Rattle.waveform.specs.Tables.{waveformOf, durationOf}
 use Rattle.waveform.specs.Frames.{framesOf}
-use Rattle.numbers.specs.Filled.{rowsFilled}
-use Rattle.numbers.specs.Number.{mappingOf, numberOf, someUndriven}
-use Rattle.pixels.specs.Lists.{beside}
-use Rattle.pixels.specs.Drive.{framesFor}
-use Rattle.pixels.specs.Draw.{drawnAt}
+use Rattle.numbers.specs.declared.Mapping.{Mapping}
+use Rattle.numbers.specs.Number.{mappingOf, outsideSome}
 use Rattle.controller.specs.declared.Operation.{Operation}
 use Rattle.controller.specs.declared.Refresh.{Refresh}
 use Rattle.controller.specs.declared.Uc8253.{Uc8253}
 use Rattle.controller.specs.declared.Work.the-variants as work
 use Rattle.controller.specs.declared.notes.Note.{Note}
 use Rattle.controller.specs.declared.notes.Note.the-variants.{Quiet, Told}
-use Rattle.controller.specs.World.{World, Buffers, world}
-use Rattle.controller.specs.Setters.{withOperation, withWaveform, withImage, withNumbers, withStates, withPicture, withOld}
-use Rattle.controller.specs.Tell.{tell}
+use Rattle.controller.specs.Setters.{withOperation, withWaveform, withImage}
 use Rattle.controller.specs.Counting.{Counting}
 
 -- refused in order: bit 5 of the first 00 byte clear (text 1), bit 4 clear (2), bit 1 clear (3), power off
@@ -53,41 +45,34 @@ waveformNow p =
     waveformOf (p .luts .bytes) (levelsOf (p .regs .power)) (getD (p .config .timing .«frame_period») (p .regs .pll % 32) 0)
     (p .mode .«vcom_by_frame»)
 
--- each pixel's number, row by row
-unfoldable pub numbersNow : Uc8253 → Buffers → List ℕ
-numbersNow p b =
-    rowsFilled (numberOf (mappingOf (p .config .panel) (p .regs) (p .config .variant)) (b .old) (b .new))
-    (p .config .panel .sources) (p .config .panel .gates) (b .numbers)
+-- what each pixel's number goes by: the panel, the registers and the variant
+abbrev pub mappingNow : Uc8253 → Mapping
+mappingNow p = mappingOf (p .config .panel) (p .regs) (p .config .variant)
 
--- the picture is partial if any number is 255, else full
-unfoldable pub kindBy : List ℕ → RefreshKind
-kindBy numbers = pick (someUndriven numbers) Partial Full
+-- the picture is partial if any number is 255, else full: if some column or row of the panel shows one outside of an area, whatever the
+-- planes hold (`outside-some`)
+unfoldable pub kindNow : Uc8253 → RefreshKind
+kindNow p = pick (outsideSome (mappingNow p)) Partial Full
 
 -- the operation, its end after the duration, which is converted whole
-unfoldable pub refreshing : (Uc8253 → Counting) → Uc8253 → List ℕ → Operation
-refreshing clock p numbers = record {
-  work = work.Refresh (record { area = writtenOf (p .regs); kind = kindBy numbers });
+unfoldable pub refreshing : (Uc8253 → Counting) → Uc8253 → Operation
+refreshing clock p = record {
+  work = work.Refresh (record { area = writtenOf (p .regs); kind = kindNow p });
   started = p .now;
   until = min (p .now + clock p .cycles (durationOf (waveformNow p))) top;
 }
 
--- only a refresh's start writes the numbers
-unfoldable pub refreshStarted : (Uc8253 → Counting) → World → World
-refreshStarted clock w =
-    let ns = numbersNow (w .chip) (w .lent) in
-    world (withOperation (refreshing clock (w .chip) ns) (withWaveform (waveformNow (w .chip)) (w .chip))) (withNumbers ns (w .lent))
+-- its start notes tables, levels, period and rule
+unfoldable pub refreshStarted : (Uc8253 → Counting) → Uc8253 → Uc8253
+refreshStarted clock p = withOperation (refreshing clock p) (withWaveform (waveformNow p) p)
 
-abbrev pub refreshedBy : (Uc8253 → Counting) → Note → World → World
-refreshedBy clock (Told k) w = tell k w
-refreshedBy clock Quiet w = refreshStarted clock w
+abbrev pub refreshedBy : (Uc8253 → Counting) → Note → Uc8253 → Uc8253
+refreshedBy clock (Told k) p = p
+refreshedBy clock Quiet p = refreshStarted clock p
 
 -- 12
-unfoldable pub refreshed : (Uc8253 → Counting) → World → World
-refreshed clock w = refreshedBy clock (refreshNote (getD (w .chip .regs .psr) 0 0) (w .chip .mode .powered)) w
-
--- the glass: each pixel walks the frames of its number's table, frame by frame, none for 255
-unfoldable pub walked : ℕ → (ℕ → List ℤ) → List ℕ → List ℤ → List ℤ
-walked swing frames numbers states = beside (λ n z. pos (walk swing (up z) (framesFor frames n))) numbers states
+unfoldable pub refreshed : (Uc8253 → Counting) → Uc8253 → Uc8253
+refreshed clock p = refreshedBy clock (refreshNote (getD (p .regs .psr) 0 0) (p .mode .powered)) p
 
 -- the head of the picture published; its generation holds at 2^64 - 1
 unfoldable pub published : RefreshKind → Bool → ℕ → Uc8253 → PanelImage
@@ -101,13 +86,13 @@ published kind interrupted at p = record {
   at = at;
 }
 
--- the states walk, and the picture is the grey of each, at top 255
-unfoldable pub finished : (ℕ → List ℤ) → RefreshKind → Bool → ℕ → World → World
-finished frames kind interrupted at w =
-    let swing = w .chip .config .optics .«full_swing» in
-    let states = walked swing frames (w .lent .numbers) (w .lent .states) in
-    world (withImage (published kind interrupted at (w .chip)) (w .chip))
-    (withPicture (drawnAt 255 swing states (w .lent .picture)) (withStates states (w .lent)))
+-- one that ends by itself is dated by its own end
+unfoldable pub endedRefresh : Refresh → Uc8253 → Uc8253
+endedRefresh r p = withImage (published (r .kind) false (p .operation .until) p) p
+
+-- one that reset cuts is dated by the clock
+unfoldable pub cutRefresh : Refresh → Uc8253 → Uc8253
+cutRefresh r p = withImage (published (r .kind) true (p .now) p) p
 
 -- the frames of a table in the refresh under way
 abbrev pub allFrames : Uc8253 → ℕ → List ℤ
@@ -116,18 +101,3 @@ allFrames p k = framesOf (p .waveform) (p .config .optics .«positive_drives_bla
 -- the whole frames elapsed: those of clock less start, converted
 abbrev pub elapsed : (Uc8253 → Counting) → Uc8253 → ℕ
 elapsed clock p = clock p .nanos (p .now - p .operation .started) / p .waveform .«frame_ns»
-
--- on UC8253 with bit 3 of the first 50 byte new is copied to old in its area
-unfoldable pub copiedAfter : Refresh → World → World
-copiedAfter r w =
-    pick (copiesNewToOld (w .chip .config .variant) (w .chip .regs))
-    (world (w .chip) (withOld (copied (w .lent .old) (w .lent .new) (r .area)) (w .lent)))
-    w
-
--- one that ends by itself drives all frames; it is dated by its own end
-unfoldable pub endedRefresh : Refresh → World → World
-endedRefresh r w = copiedAfter r (finished (allFrames (w .chip)) (r .kind) false (w .chip .operation .until) w)
-
--- one that reset cuts drives the whole frames elapsed; it is dated by the clock
-unfoldable pub cutRefresh : (Uc8253 → Counting) → Refresh → World → World
-cutRefresh clock r w = finished (λ k. take (elapsed clock (w .chip)) (allFrames (w .chip) k)) (r .kind) true (w .chip .now) w

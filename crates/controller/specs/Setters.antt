@@ -82,19 +82,16 @@ withCurrent x p = withStage (record { current = x }) p
 
 -- the lent buffers with one changed
 abbrev pub withOld : List ℕ → Buffers → Buffers
-withOld l b = buffers l (b .new) (b .states) (b .numbers) (b .picture) (b .rows)
+withOld l b = buffers l (b .new) (b .states) (b .picture) (b .rows)
 
 abbrev pub withNew : List ℕ → Buffers → Buffers
-withNew l b = buffers (b .old) l (b .states) (b .numbers) (b .picture) (b .rows)
+withNew l b = buffers (b .old) l (b .states) (b .picture) (b .rows)
 
 abbrev pub withStates : List ℤ → Buffers → Buffers
-withStates l b = buffers (b .old) (b .new) l (b .numbers) (b .picture) (b .rows)
-
-abbrev pub withNumbers : List ℕ → Buffers → Buffers
-withNumbers l b = buffers (b .old) (b .new) (b .states) l (b .picture) (b .rows)
+withStates l b = buffers (b .old) (b .new) l (b .picture) (b .rows)
 
 abbrev pub withPicture : List ℕ → Buffers → Buffers
-withPicture l b = buffers (b .old) (b .new) (b .states) (b .numbers) l (b .rows)
+withPicture l b = buffers (b .old) (b .new) (b .states) l (b .rows)
 
 abbrev pub withRows : List ℕ → Buffers → Buffers
-withRows l b = buffers (b .old) (b .new) (b .states) (b .numbers) (b .picture) l
+withRows l b = buffers (b .old) (b .new) (b .states) (b .picture) l

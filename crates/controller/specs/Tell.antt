@@ -1,17 +1,32 @@
--- Document 01, "A call arrives": a diagnostic is stored, or dropped.
-use Rattle.diagnostic.specs.declared.DiagnosticKind.{DiagnosticKind}
+-- Document 01, "A call arrives": a diagnostic is stored, or dropped. A call tells at most two, and both carry the clock.
+use mathlib.Core.List.{List}
+use Prim.Native.Nat.{ℕ}
+use Rattle.log.specs.declared.Log.{Log}
 use Rattle.log.specs.Log.{reported, rowsAfter}
 use Rattle.controller.specs.declared.notes.Note.{Note}
 use Rattle.controller.specs.declared.notes.Note.the-variants.{Quiet, Told}
-use Rattle.controller.specs.World.{World, world}
-use Rattle.controller.specs.Setters.{withLog, withRows}
+use Rattle.controller.specs.declared.notes.Notes.{Notes}
 
--- a diagnostic: of the record its log, of what is lent the rows; it carries the clock
-unfoldable pub tell : DiagnosticKind → World → World
-tell k w =
-    world (withLog (reported (w .chip .log)) (w .chip))
-    (withRows (rowsAfter (w .chip .log) (w .chip .now) k (w .lent .rows)) (w .lent))
+-- the log counts it
+abbrev pub logNoted : Note → Log → Log
+logNoted Quiet g = g
+logNoted (Told k) g = reported g
 
-abbrev pub told : Note → World → World
-told Quiet w = w
-told (Told k) w = tell k w
+-- the rows store it, with the clock
+abbrev pub rowNoted : Note → ℕ → Log → List ℕ → List ℕ
+rowNoted Quiet now g rows = rows
+rowNoted (Told k) now g rows = rowsAfter g now k rows
+
+-- what a call tells, in order
+abbrev pub notes : Note → Note → Notes
+notes first second = record { first = first; second = second }
+
+abbrev pub silent : Notes
+silent = notes Quiet Quiet
+
+-- the log after it, and the rows
+abbrev pub logTold : Notes → Log → Log
+logTold n g = logNoted (n .second) (logNoted (n .first) g)
+
+abbrev pub rowsTold : Notes → ℕ → Log → List ℕ → List ℕ
+rowsTold n now g rows = rowNoted (n .second) now (logNoted (n .first) g) (rowNoted (n .first) now g rows)

@@ -10,7 +10,7 @@ use Rattle.registers.specs.declared.Area.{Area}
 use Rattle.registers.specs.declared.Pair.{Pair}
 use Rattle.registers.specs.declared.Registers.{Registers}
 use Rattle.waveform.specs.declared.Levels.{Levels}
-use Rattle.pixels.specs.States.{everyState, everyNumber}
+use Rattle.pixels.specs.States.{everyState}
 use Rattle.controller.specs.declared.Power.{Power}
 use Rattle.controller.specs.declared.Power.the-variants as power
 use Rattle.controller.specs.declared.Work.{Work}
@@ -68,15 +68,15 @@ foreignRecord p =
     || (badWork (p .operation .work) (p .waveform .«frame_ns») (p .waveform .levels)
     || ltb 1024 (p .log .stored))))
 
--- 5: old or new plane is not 60,000 bytes; states, table numbers or picture not sources × gates entries; diagnostics not 5,120 numbers
-unfoldable pub lengthsFit : Uc8253Config → ℕ → ℕ → ℕ → ℕ → ℕ → ℕ → Bool
-lengthsFit c old new states numbers picture rows =
+-- 5: old or new plane is not 60,000 bytes; states or picture not sources × gates entries; diagnostics not 5,120 numbers
+unfoldable pub lengthsFit : Uc8253Config → ℕ → ℕ → ℕ → ℕ → ℕ → Bool
+lengthsFit c old new states picture rows =
     let pixels = c .panel .sources * c .panel .gates in
-    eqb old 60000 && (eqb new 60000 && (eqb states pixels && (eqb numbers pixels && (eqb picture pixels && eqb rows 5120))))
+    eqb old 60000 && (eqb new 60000 && (eqb states pixels && (eqb picture pixels && eqb rows 5120)))
 
 abbrev pub lentFits : Uc8253Config → Buffers → Bool
 lentFits c b =
-    lengthsFit c (length (b .old)) (length (b .new)) (length (b .states)) (length (b .numbers)) (length (b .picture)) (length (b .rows))
+    lengthsFit c (length (b .old)) (length (b .new)) (length (b .states)) (length (b .picture)) (length (b .rows))
 
 -- 7: the call ends a refresh: its end has come, or the call asserts reset and the line was not low
 abbrev pub cuts : Power → Bool → Bool
@@ -97,9 +97,9 @@ unfoldable pub endsRefresh : Bool → ℕ → Uc8253 → Bool
 endsRefresh asserted t p =
     refreshRuns (p .operation .work) && (leb (p .operation .until) (max (p .now) t) || cuts (p .mode .power) asserted)
 
--- a state is outside 0 .. full swing or a table number is none of 1, 2, 3, 4, 255
-unfoldable pub foreignContents : ℕ → Buffers → Bool
-foreignContents swing b = not (everyState swing (b .states)) || not (everyNumber (b .numbers))
+-- a state is outside 0 .. full swing
+abbrev pub foreignContents : ℕ → Buffers → Bool
+foreignContents swing b = not (everyState swing (b .states))
 
 -- a later call tests 6, 5, 7; 0 if it is not turned back
 unfoldable pub turnedBack : Bool → ℕ → World → ℕ

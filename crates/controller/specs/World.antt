@@ -4,12 +4,11 @@ use Prim.Native.Nat.{ℕ}
 use lib.IntN.{ℤ}
 use Rattle.controller.specs.declared.Uc8253.{Uc8253}
 
--- what is lent: two planes, states, table numbers and picture, and the rows of the diagnostics
+-- what is lent: two planes, states and picture, and the rows of the diagnostics
 pub record Buffers : Type 0 where
   pub old : List ℕ
   pub new : List ℕ
   pub states : List ℤ
-  pub numbers : List ℕ
   pub picture : List ℕ
   pub rows : List ℕ
 
@@ -17,19 +16,14 @@ pub record World : Type 0 where
   pub chip : Uc8253
   pub lent : Buffers
 
-abbrev pub buffers : List ℕ → List ℕ → List ℤ → List ℕ → List ℕ → List ℕ → Buffers
-buffers old new states numbers picture rows = record {
+abbrev pub buffers : List ℕ → List ℕ → List ℤ → List ℕ → List ℕ → Buffers
+buffers old new states picture rows = record {
   old = old;
   new = new;
   states = states;
-  numbers = numbers;
   picture = picture;
   rows = rows;
 }
 
 abbrev pub world : Uc8253 → Buffers → World
 world p b = record { chip = p; lent = b }
-
--- the record changed, nothing lent
-abbrev pub onChip : (Uc8253 → Uc8253) → World → World
-onChip f w = world (f (w .chip)) (w .lent)

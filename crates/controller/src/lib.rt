@@ -3,6 +3,7 @@
 //
 // RAM, glass, picture and diagnostics lie in lent buffers; the decoded tables of a refresh stand
 // beside the operation, since an enum holds no array.
+mod drives;
 mod notes;
 mod reads;
 mod uses;
@@ -10,10 +11,12 @@ mod uses;
 use base::Refusal;
 use command::Kind;
 use config::Uc8253Config;
+pub use drives::Drive;
 use glass::PanelImage;
 use glass::RefreshKind;
 use log::Log;
 pub use notes::Note;
+pub use notes::Notes;
 use ram::Cursor;
 pub use reads::Read;
 use registers::Area;

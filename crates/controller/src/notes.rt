@@ -6,3 +6,9 @@ pub enum Note {
     Quiet,
     Told(DiagnosticKind),
 }
+
+// What a call tells, in order: at most two diagnostics.
+pub struct Notes {
+    pub first: Note,
+    pub second: Note,
+}

@@ -1,323 +1,236 @@
--- What `isCut` says of an event is what the controller's own reset call does: it stores kind 15 and publishes a picture marked
--- interrupted, of the frames that `cutAt` counts, exactly if the event is a cut. By the tests of `isCut`, one by one.
-use mathlib.Core.Path.{_≡_, refl, sym, ap, subst, _∙_}
-use mathlib.Core.Bool.{Bool, true, false, _||_, _&&_, true≢false}
+-- A cut that is found is what the event's call does: it tells kind 15, drives the frames found, publishes a picture marked interrupted, and
+-- then resets; where none is found, a call that asserts reset publishes nothing. By the question that both ask (controller: `drivenAt`).
+use mathlib.Core.Path.{_≡_, refl, sym, ap, _∙_}
+use mathlib.Core.Bool.{Bool, true, false, _||_, _&&_, true≢false, and-false}
 use Prim.Native.Nat.{ℕ, max}
-use lib.Dec.{eqb, ltb, leb}
+use native.Mathlib.Omega.{arith}
+use lib.Dec.{eqb, leb}
 use lib.ListN.{take}
-use borrow.Author.Tests.{eqb-true, eq-eqb, ne-eqb, ltb-true, leb-true, leb-false, lt-leb, le-ltb, lt-ltb}
+use borrow.Author.Tests.{eqb-true, eq-eqb}
 use Rattle.base.specs.Pick.{pick}
 use Rattle.base.proofs.Cases.{by-cases}
-use Rattle.glass.specs.declared.PanelImage.{PanelImage}
 use Rattle.diagnostic.specs.declared.DiagnosticKind.the-variants.{ResetDuringRefresh}
 use Rattle.controller.specs.declared.Power.{Power}
 use Rattle.controller.specs.declared.Power.the-variants as power
 use Rattle.controller.specs.declared.Work.{Work}
 use Rattle.controller.specs.declared.Work.the-variants as work
-use Rattle.controller.specs.declared.Current.{Current}
-use Rattle.controller.specs.declared.Current.the-variants as current
-use Rattle.controller.specs.declared.notes.Note.{Note}
-use Rattle.controller.specs.declared.notes.Note.the-variants.{Quiet, Told}
 use Rattle.controller.specs.declared.Refresh.{Refresh}
 use Rattle.controller.specs.declared.Uc8253.{Uc8253}
-use Rattle.controller.specs.World.{World, onChip}
+use Rattle.controller.specs.declared.drives.Drive.the-variants as drive
+use Rattle.controller.specs.declared.notes.Note.{Note}
+use Rattle.controller.specs.declared.notes.Note.the-variants.{Quiet, Told}
+use Rattle.controller.specs.World.{World}
+use Rattle.controller.specs.Tell.{notes, silent}
+use Rattle.controller.specs.Arrives.{timed, endedBy, ended, arrived}
+use Rattle.controller.specs.Command.{closeNote}
+use Rattle.controller.specs.Refresh.{elapsed, published, allFrames, endedRefresh, cutRefresh}
+use Rattle.controller.specs.Reset.{cutBy, cutNote, cleared, loweredBy, loweredNotes, resetEdge}
+use Rattle.controller.specs.Glass.{drivenAt, numbersNow, walked}
 use Rattle.controller.specs.TurnedBack.{cuts, refreshRuns, endsRefresh, turnedBack}
-use Rattle.controller.specs.Tell.{tell, told}
-use Rattle.controller.specs.Arrives.{timed, ended, endedBy, arrived}
-use Rattle.controller.specs.Command.{closedBy, closed, closingNote}
-use Rattle.controller.specs.Refresh.{walked, published, allFrames, finished, cutRefresh}
-use Rattle.controller.specs.Reset as reset
-use Rattle.controller.specs.Calls.{called, resetCall}
+use Rattle.controller.specs.Ask.{reset, advance, chipAfter, toldBy, drivenBy, recordAfter, lentAfter}
 use Rattle.controller.specs.Counting.{own}
-use Rattle.controller.proofs.Ends.{ended-image}
+use Rattle.controller.proofs.TurnedAway.{doneTo, did-yes}
 use Rattle.event.specs.declared.Event.{Event}
 use Rattle.event.specs.Events.{asserts, eventDone, eventDoneBy, eventRefused}
-use Rattle.cuts.specs.Cuts.{isCut, cutAt}
+use Rattle.cuts.specs.declared.finding.Cut.{Cut}
+use Rattle.cuts.specs.declared.finding.Found.the-variants as found
+use Rattle.cuts.specs.Cuts.{cutAt, cutOf}
+use Rattle.cuts.specs.Cuts as rule
 
--- ---- the tests of a cut, one by one
-first : (a b : Bool) → (a && b) ≡ true → a ≡ true
-first true b e = refl
-first false b e = e
+-- the reset call at t, part by part, that makes v of w with the cut c: kind 15, then what closing tells; the frames of the cut; the
+-- picture of the refresh, and then the reset
+pub record CutAt (t : ℕ) (c : Cut) (w v : World) : Type 0 where
+  pub refresh : Refresh
+  pub runs : w .chip .operation .work ≡ work.Refresh refresh
+  pub is : c ≡ cutAt t (elapsed own (timed t (w .chip))) (w .chip)
+  pub call : v ≡ doneTo own (reset t true) w
+  pub tells : toldBy (reset t true) (w .chip) ≡ notes (Told ResetDuringRefresh) (closeNote (w .chip .stage .current))
+  pub drives : drivenBy own (reset t true) (w .chip) ≡ drive.First (c .frames)
+  pub leaves : chipAfter own (reset t true) (w .chip) ≡ cleared (cutRefresh refresh (timed t (w .chip)))
 
-second : (a b : Bool) → (a && b) ≡ true → b ≡ true
-second true b e = e
-second false b e = absurd (true≢false (sym e))
+-- with no cut: the glass does as at an advance; then the line was low already, or the command closes and the registers are cleared
+pub record Spares (t : ℕ) (w v : World) : Type 0 where
+  pub call : v ≡ doneTo own (reset t true) w
+  pub tells : toldBy (reset t true) (w .chip)
+      ≡ pick (cuts (arrived t (w .chip) .mode .power) true) (notes Quiet (closeNote (arrived t (w .chip) .stage .current))) silent
+  pub drives : drivenBy own (reset t true) (w .chip) ≡ drivenBy own (advance t) (w .chip)
+  pub leaves : chipAfter own (reset t true) (w .chip)
+      ≡ pick (cuts (arrived t (w .chip) .mode .power) true) (cleared (arrived t (w .chip))) (arrived t (w .chip))
 
-all-three : (a b c : Bool) → a ≡ true → b ≡ true → c ≡ true → (a && (b && c)) ≡ true
-all-three true true true e f g = refl
-all-three true true false e f g = g
-all-three true false c e f g = f
-all-three false b c e f g = e
+-- ---- the question
+each : (a b : Bool) → (a && b) ≡ true → (a ≡ true) × (b ≡ true)
+each true b e = (refl, e)
+each false b e = absurd (true≢false (sym e))
 
--- ---- how the code asks: the call ends a refresh, and would end none if it did not assert reset
-above : (u m : ℕ) → leb u m ≡ true → ltb m u ≡ false
-above u m e = le-ltb m u (leb-true u m e)
-
-below : (u m : ℕ) → leb u m ≡ false → ltb m u ≡ true
-below u m e = lt-ltb m u (leb-false u m e)
+out : (x : Power) (a : Bool) → cuts x a ≡ true → (a ≡ true) × (cuts x true ≡ true)
+out power.Running a e = (e, refl)
+out power.Asleep a e = (e, refl)
+out power.InReset a e = absurd (true≢false (sym e))
 
 unasserted : (x : Power) → cuts x false ≡ false
 unasserted power.Running = refl
 unasserted power.Asleep = refl
 unasserted power.InReset = refl
 
-over-anyway : (r l c k : Bool) → (l ≡ true → k ≡ false) → (r && (l || false)) ≡ true → (c && (r && k)) ≡ false
-over-anyway true true true k f e = f refl
-over-anyway true true false k f e = refl
-over-anyway true false c k f e = absurd (true≢false (sym e))
-over-anyway false l c k f e = absurd (true≢false (sym e))
-
-by-reset : (r l c k : Bool) → (l ≡ false → k ≡ true) → (r && (l || false)) ≡ false → (r && (l || c)) ≡ (c && (r && k))
-by-reset true true c k f e = absurd (true≢false e)
-by-reset true false true k f e = sym (f refl)
-by-reset true false false k f e = refl
-by-reset false l true k f e = refl
-by-reset false l false k f e = refl
-
-module _ (t : ℕ) (p : Uc8253) where
-  abbrev rest : Bool
-  rest = cuts (p .mode .power) true && (refreshRuns (p .operation .work) && ltb (max (p .now) t) (p .operation .until))
-
-  pub ends-alone : endsRefresh false t p ≡ true → rest ≡ false
-  unfolding endsRefresh
-  ends-alone e =
-      over-anyway (refreshRuns (p .operation .work)) (leb (p .operation .until) (max (p .now) t)) (cuts (p .mode .power) true)
-      (ltb (max (p .now) t) (p .operation .until)) (above (p .operation .until) (max (p .now) t)) (rw (unasserted (p .mode .power)) at e)
-
-  pub ends-by-reset : endsRefresh false t p ≡ false → endsRefresh true t p ≡ rest
-  unfolding endsRefresh
-  ends-by-reset e =
-      by-reset (refreshRuns (p .operation .work)) (leb (p .operation .until) (max (p .now) t)) (cuts (p .mode .power) true)
-      (ltb (max (p .now) t) (p .operation .until)) (below (p .operation .until) (max (p .now) t)) (rw (unasserted (p .mode .power)) at e)
-
-module _ (e : Event) (p : Uc8253) where
-  pub no-reset : (e .kind ≡ 4 → ⊥) → false ≡ isCut e p
-  unfolding isCut asserts
-  no-reset n = rw (ne-eqb (e .kind) 4 n)
-
-  module _ (k : e .kind ≡ 4) where
-    pub released : (e .value ≡ 1 → ⊥) → false ≡ isCut e p
-    unfolding isCut asserts
-    released n = rw (eq-eqb (e .kind) 4 k, ne-eqb (e .value) 1 n)
-
-    module _ (v : e .value ≡ 1) where
-      pub over : endsRefresh false (e .time) p ≡ true → false ≡ isCut e p
-      unfolding isCut asserts
-      over h = rw (eq-eqb (e .kind) 4 k, eq-eqb (e .value) 1 v) (sym (ends-alone (e .time) p h))
-
-      pub ended-by-it : endsRefresh false (e .time) p ≡ false → endsRefresh true (e .time) p ≡ isCut e p
-      unfolding isCut asserts
-      ended-by-it h = rw (eq-eqb (e .kind) 4 k, eq-eqb (e .value) 1 v) (ends-by-reset (e .time) p h)
-
--- ---- the call: a refresh that runs, out of reset, before its end
 record Runs (x : Work) : Type 0 where
   refresh : Refresh
   is : x ≡ work.Refresh refresh
 
-runs : (x : Work) → refreshRuns x ≡ true → Runs x
-runs work.Nothing e = absurd (true≢false (sym e))
-runs work.PowerOn e = absurd (true≢false (sym e))
-runs work.PowerOff e = absurd (true≢false (sym e))
-runs work.DeepSleep e = absurd (true≢false (sym e))
-runs work.SoftReset e = absurd (true≢false (sym e))
-runs work.HardwareReset e = absurd (true≢false (sym e))
-runs (work.Refresh r) e = record { refresh = r; is = refl }
+running : (x : Work) → refreshRuns x ≡ true → Runs x
+running work.Nothing e = absurd (true≢false (sym e))
+running work.PowerOn e = absurd (true≢false (sym e))
+running work.PowerOff e = absurd (true≢false (sym e))
+running work.DeepSleep e = absurd (true≢false (sym e))
+running work.SoftReset e = absurd (true≢false (sym e))
+running work.HardwareReset e = absurd (true≢false (sym e))
+running (work.Refresh r) e = record { refresh = r; is = refl }
 
-lowered : (x : Power) (v : World) → cuts x true ≡ true → reset.loweredBy own x v ≡ onChip reset.cleared (closed (reset.cut own v))
-lowered power.Running v e = refl
-lowered power.Asleep v e = refl
-lowered power.InReset v e = absurd (true≢false (sym e))
+none : (c : Cut) → found.Nothing ≡ found.Cut c → ⊥
+none c e = let z : _≡_ {A = ℕ} 0 1 = cc in omega arith
 
--- kind 15, the picture of the whole frames elapsed, and then the reset
-abbrev pub cutCall : ℕ → Refresh → World → World
-cutCall t r w = onChip reset.cleared (closed (cutRefresh own r (tell ResetDuringRefresh (timed t w))))
-
-pub record CutAt (t : ℕ) (w v : World) : Type 0 where
-  pub refresh : Refresh
-  pub runs : w .chip .operation .work ≡ work.Refresh refresh
-  pub call : v ≡ cutCall t refresh w
-
--- reset asserted with no refresh to cut: the line was low already, or the command closes and the registers are cleared
-abbrev pub uncut : World → World
-uncut v = pick (cuts (v .chip .mode .power) true) (onChip reset.cleared (closed v)) v
-
--- nothing runs that has come to its end
-idle : (x : Work) (u : World) → u .chip .operation .work ≡ x → refreshRuns (endedBy x u .chip .operation .work) ≡ false
-idle work.Nothing u e = ap refreshRuns e
-idle work.PowerOn u e = refl
-idle work.PowerOff u e = refl
-idle work.DeepSleep u e = refl
-idle work.SoftReset u e = refl
-idle work.HardwareReset u e = refl
-idle (work.Refresh r) u e = refl
-
-whole : (x : Work) (v : World) → refreshRuns x ≡ false → reset.cutBy own x v ≡ v
-whole work.Nothing v e = refl
-whole work.PowerOn v e = refl
-whole work.PowerOff v e = refl
-whole work.DeepSleep v e = refl
-whole work.SoftReset v e = refl
-whole work.HardwareReset v e = refl
-whole (work.Refresh r) v e = absurd (true≢false e)
-
-spared : (x : Power) (v : World) → (cuts x true && refreshRuns (v .chip .operation .work)) ≡ false
-    → reset.loweredBy own x v ≡ pick (cuts x true) (onChip reset.cleared (closed v)) v
-unfolding reset.cut
-spared power.Running v e = ap (λ (u : World). onChip reset.cleared (closed u)) (whole (v .chip .operation .work) v e)
-spared power.Asleep v e = ap (λ (u : World). onChip reset.cleared (closed u)) (whole (v .chip .operation .work) v e)
-spared power.InReset v e = refl
-
-no-more : (c r k : Bool) → k ≡ true → (c && (r && k)) ≡ false → (c && r) ≡ false
-no-more true true k f e = absurd (true≢false (sym f ∙ e))
-no-more true false k f e = refl
-no-more false r k f e = refl
-
-never : (c r : Bool) → r ≡ false → (c && r) ≡ false
-never true r e = e
-never false r e = refl
-
-module _ (t : ℕ) (w : World) where
+module _ (t : ℕ) (p : Uc8253) where
   abbrev soon : Bool
-  soon = leb (w .chip .operation .until) (max (w .chip .now) t)
+  soon = leb (p .operation .until) (max (p .now) t)
 
-  arrived-late : soon ≡ false → arrived t w ≡ timed t w
-  unfolding arrived ended
-  arrived-late e = rw e
+  -- what a cut says: reset is asserted out of reset, a refresh runs, and its end lies above the clock
+  record Cutting (a : Bool) (c : Cut) : Type 0 where
+    asserted : a ≡ true
+    line : cuts (p .mode .power) true ≡ true
+    refresh : Runs (p .operation .work)
+    late : soon ≡ false
+    is : c ≡ cutAt t (elapsed own (timed t p)) p
 
-  arrived-soon : soon ≡ true → arrived t w ≡ endedBy (w .chip .operation .work) (timed t w)
-  unfolding arrived ended
-  arrived-soon e = rw e
+  cutting : (a : Bool) (c : Cut) → cutOf (drivenAt own a t p) t p ≡ found.Cut c → Cutting a c
+  unfolding drivenAt endsRefresh
+  cutting a c e =
+      let r = refreshRuns (p .operation .work) in
+      by-cases (r && (soon || cuts (p .mode .power) a))
+      (λ h. by-cases soon
+      (λ s. absurd (none c (rw (h, s) at e)))
+      (λ s.
+      let g = each r (cuts (p .mode .power) a) (rw s at h) in
+      let o = out (p .mode .power) a (g .1) in
+      let same : found.Cut (cutAt t (elapsed own (timed t p)) p) ≡ found.Cut c = rw (h, s) at e in
+      record { asserted = o .0; line = o .1; refresh = running (p .operation .work) (g .0); late = s; is = cc }))
+      (λ h. absurd (none c (rw h at e)))
 
-  taken : turnedBack true t w ≡ 0 → resetCall own t true w ≡ reset.loweredBy own (arrived t w .chip .mode .power) (arrived t w)
-  unfolding called reset.resetEdge
-  taken z = rw (eq-eqb (turnedBack true t w) 0 z)
+  -- what none says: the glass does as without the assertion, and no refresh is left to cut
+  record Sparing : Type 0 where
+    drives : drivenAt own true t p ≡ drivenAt own false t p
+    calm : (refreshRuns (arrived t p .operation .work) && cuts (arrived t p .mode .power) true) ≡ false
 
-  -- ---- a cut
-  cut-of : (r : Refresh) → w .chip .operation .work ≡ work.Refresh r → reset.cut own (timed t w) ≡ cutRefresh own r (tell ResetDuringRefresh (timed t w))
-  unfolding reset.cut
-  cut-of r e = ap (λ (x : Work). reset.cutBy own x (timed t w)) e
+  idle : (x : Work) → p .operation .work ≡ x → refreshRuns (endedBy x (timed t p) .operation .work) ≡ false
+  idle work.Nothing e = ap refreshRuns e
+  idle work.PowerOn e = refl
+  idle work.PowerOff e = refl
+  idle work.DeepSleep e = refl
+  idle work.SoftReset e = refl
+  idle work.HardwareReset e = refl
+  idle (work.Refresh r) e = refl
 
-  late : rest t (w .chip) ≡ true → soon ≡ false
-  late e =
-      let c = cuts (w .chip .mode .power) true in
-      let r = refreshRuns (w .chip .operation .work) in
-      let k = ltb (max (w .chip .now) t) (w .chip .operation .until) in
-      lt-leb (w .chip .operation .until) (max (w .chip .now) t)
-      (ltb-true (max (w .chip .now) t) (w .chip .operation .until) (second r k (second c (r && k) e)))
-
-  pub reset-cuts : turnedBack true t w ≡ 0 → rest t (w .chip) ≡ true → CutAt t w (resetCall own t true w)
-  reset-cuts z e =
-      let c = cuts (w .chip .mode .power) true in
-      let r = refreshRuns (w .chip .operation .work) in
-      let k = ltb (max (w .chip .now) t) (w .chip .operation .until) in
-      let x = runs (w .chip .operation .work) (first r k (second c (r && k) e)) in
-      record {
-        refresh = x .refresh;
-        runs = x .is;
-        call =
-            taken z
-            ∙ ap (λ (v : World). reset.loweredBy own (v .chip .mode .power) v) (arrived-late (late e))
-            ∙ lowered (w .chip .mode .power) (timed t w) (first c (r && k) e)
-            ∙ ap (λ (v : World). onChip reset.cleared (closed v)) (cut-of (x .refresh) (x .is));
-      }
-
-  -- ---- no cut
-  nothing-runs : rest t (w .chip) ≡ false
-      → (cuts (arrived t w .chip .mode .power) true && refreshRuns (arrived t w .chip .operation .work)) ≡ false
-  nothing-runs e =
+  sparing : cutOf (drivenAt own true t p) t p ≡ found.Nothing → Sparing
+  unfolding drivenAt endsRefresh arrived ended
+  sparing e =
+      let r = refreshRuns (p .operation .work) in
       by-cases soon
-      (λ s.
-      never (cuts (arrived t w .chip .mode .power) true) (refreshRuns (arrived t w .chip .operation .work))
-      (ap (λ (v : World). refreshRuns (v .chip .operation .work)) (arrived-soon s) ∙ idle (w .chip .operation .work) (timed t w) refl))
-      (λ s.
-      ap (λ (v : World). cuts (v .chip .mode .power) true && refreshRuns (v .chip .operation .work)) (arrived-late s)
-      ∙ no-more (cuts (w .chip .mode .power) true) (refreshRuns (w .chip .operation .work))
-      (ltb (max (w .chip .now) t) (w .chip .operation .until)) (below (w .chip .operation .until) (max (w .chip .now) t) s) e)
+      (λ s. record { drives = rw s; calm = rw (s, idle (p .operation .work) refl) })
+      (λ s. by-cases (r && cuts (p .mode .power) true)
+      (λ h. absurd (none _ (sym (rw (s, h) at e))))
+      (λ h. record { drives = rw (s, unasserted (p .mode .power), and-false r, h); calm = rw (s, h) }))
 
-  pub reset-spares : turnedBack true t w ≡ 0 → rest t (w .chip) ≡ false → resetCall own t true w ≡ uncut (arrived t w)
-  reset-spares z e = taken z ∙ spared (arrived t w .chip .mode .power) (arrived t w) (nothing-runs e)
+-- ---- asserting reset, with a refresh that it cuts and without: the record, and what is told
+lowered : (x : Power) (q : Uc8253) → cuts x true ≡ true
+    → (loweredBy x q ≡ cleared (cutBy (q .operation .work) q))
+    × (loweredNotes x q ≡ notes (cutNote (q .operation .work)) (closeNote (q .stage .current)))
+lowered power.Running q e = (refl, refl)
+lowered power.Asleep q e = (refl, refl)
+lowered power.InReset q e = absurd (true≢false (sym e))
+
+whole : (x : Work) (q : Uc8253) (n : Note) → (refreshRuns x && true) ≡ false
+    → (cleared (cutBy x q) ≡ cleared q) × (notes (cutNote x) n ≡ notes Quiet n)
+whole work.Nothing q n e = (refl, refl)
+whole work.PowerOn q n e = (refl, refl)
+whole work.PowerOff q n e = (refl, refl)
+whole work.DeepSleep q n e = (refl, refl)
+whole work.SoftReset q n e = (refl, refl)
+whole work.HardwareReset q n e = (refl, refl)
+whole (work.Refresh r) q n e = absurd (true≢false e)
+
+spared : (x : Power) (q : Uc8253) → (refreshRuns (q .operation .work) && cuts x true) ≡ false
+    → (loweredBy x q ≡ pick (cuts x true) (cleared q) q)
+    × (loweredNotes x q ≡ pick (cuts x true) (notes Quiet (closeNote (q .stage .current))) silent)
+spared power.Running q e = whole (q .operation .work) q (closeNote (q .stage .current)) e
+spared power.Asleep q e = whole (q .operation .work) q (closeNote (q .stage .current)) e
+spared power.InReset q e = (refl, refl)
+
+-- ---- an event that its call takes
+event-resets : (e : Event) (w : World) → eventRefused e w ≡ 0 → asserts e ≡ true → eventDone e w ≡ doneTo own (reset (e .time) true) w
+unfolding asserts eventDone eventDoneBy eventRefused
+event-resets e w z a =
+    let g = each (eqb (e .kind) 4) (eqb (e .value) 1) a in
+    let k : e .kind ≡ 4 = eqb-true (e .kind) 4 (g .0) in
+    let v : e .value ≡ 1 = eqb-true (e .value) 1 (g .1) in
+    let taken : turnedBack true (e .time) w ≡ 0 = rw (k, v) at z in
+    rw (k, v) (did-yes (reset (e .time) true) w (eq-eqb (turnedBack true (e .time) w) 0 taken))
+
+pub event-cuts : (e : Event) (w : World) (c : Cut) → eventRefused e w ≡ 0 → rule.cutBy e (w .chip) ≡ found.Cut c
+    → CutAt (e .time) c w (eventDone e w)
+unfolding rule.cutBy arrived ended resetEdge drivenAt endsRefresh
+event-cuts e w c z f =
+    let p = w .chip in
+    let k = cutting (e .time) p (asserts e) c f in
+    let r = k .refresh .is in
+    let low = lowered (p .mode .power) (timed (e .time) p) (k .line) in
+    record {
+      refresh = k .refresh .refresh;
+      runs = r;
+      is = k .is;
+      call = event-resets e w z (k .asserted);
+      tells = rw (k .late) (low .1 ∙ ap (λ (x : Work). notes (cutNote x) (closeNote (p .stage .current))) r);
+      drives = rw (r, k .late, k .line) (ap (λ (x : Cut). drive.First (x .frames)) (sym (k .is)));
+      leaves = rw (k .late) (low .0 ∙ ap (λ (x : Work). cleared (cutBy x (timed (e .time) p))) r);
+    }
+
+pub event-spares : (e : Event) (w : World) → eventRefused e w ≡ 0 → asserts e ≡ true → rule.cutBy e (w .chip) ≡ found.Nothing
+    → Spares (e .time) w (eventDone e w)
+unfolding rule.cutBy resetEdge
+event-spares e w z a n =
+    let q = arrived (e .time) (w .chip) in
+    let k = sparing (e .time) (w .chip) (rw a at n) in
+    let low = spared (q .mode .power) q (k .calm) in
+    record { call = event-resets e w z a; tells = low .1; drives = k .drives; leaves = low .0 }
 
 -- ---- the picture and the states of both
-told-image : (n : Note) (v : World) → told n v .chip .image ≡ v .chip .image
-unfolding tell
-told-image Quiet v = refl
-told-image (Told k) v = refl
-
-told-states : (n : Note) (v : World) → told n v .lent .states ≡ v .lent .states
-unfolding tell
-told-states Quiet v = refl
-told-states (Told k) v = refl
-
-closed-image : (x : Current) (v : World) → closedBy x v .chip .image ≡ v .chip .image
-closed-image current.Idle v = refl
-closed-image current.Ignoring v = refl
-closed-image (current.Active a) v = told-image (closingNote a) v
-
-closed-states : (x : Current) (v : World) → closedBy x v .lent .states ≡ v .lent .states
-closed-states current.Idle v = refl
-closed-states current.Ignoring v = refl
-closed-states (current.Active a) v = told-states (closingNote a) v
-
-module _ (t : ℕ) (r : Refresh) (w : World) where
+module _ {t : ℕ} {c : Cut} {w v : World} (k : CutAt t c w v) where
   -- marked interrupted, its end the clock
-  pub cut-image : cutCall t r w .chip .image ≡ published (r .kind) true (cutAt t (w .chip) .at) (w .chip)
-  unfolding reset.cleared closed cutRefresh finished tell cutAt published
-  cut-image = closed-image (w .chip .stage .current) (cutRefresh own r (tell ResetDuringRefresh (timed t w)))
+  pub cut-image : v .chip .image ≡ published (k .refresh .kind) true (c .at) (w .chip)
+  unfolding recordAfter cleared cutRefresh published
+  cut-image = rw (k .call, k .leaves, k .is)
 
   -- each pixel walks the frames that the cut counts, of its number's table
-  pub cut-states : cutCall t r w .lent .states
-      ≡ walked (w .chip .config .optics .«full_swing») (λ k. take (cutAt t (w .chip) .frames) (allFrames (w .chip) k))
-      (w .lent .numbers) (w .lent .states)
-  unfolding closed cutRefresh finished tell cutAt
-  cut-states = closed-states (w .chip .stage .current) (cutRefresh own r (tell ResetDuringRefresh (timed t w)))
+  pub cut-states : v .lent .states
+      ≡ walked (w .chip .config .optics .«full_swing») (λ k. take (c .frames) (allFrames (w .chip) k))
+      (numbersNow (w .chip) (w .lent .old) (w .lent .new)) (w .lent .states)
+  unfolding lentAfter
+  cut-states = rw (k .call, k .drives)
 
 -- no cut publishes nothing: the picture is the one that the call's time left
-pub spared-image : (v : World) → uncut v .chip .image ≡ v .chip .image
-unfolding reset.cleared closed
-spared-image v =
-    by-cases (cuts (v .chip .mode .power) true) (λ e. rw e (closed-image (v .chip .stage .current) v)) (λ e. rw e)
+pub spared-image : {t : ℕ} {w v : World} → Spares t w v → v .chip .image ≡ arrived t (w .chip) .image
+unfolding recordAfter cleared
+spared-image {t = t} {w = w} k =
+    rw (k .call, k .leaves) (by-cases (cuts (arrived t (w .chip) .mode .power) true) (λ e. rw e) (λ e. rw e))
 
 -- and time alone marks none as interrupted
-ended-whole : (x : Work) (v : World) → endedBy x v .chip .image .interrupted ≡ true → endedBy x v .chip .image ≡ v .chip .image
-unfolding published
-ended-whole work.Nothing v e = refl
-ended-whole work.PowerOn v e = refl
-ended-whole work.PowerOff v e = refl
-ended-whole work.DeepSleep v e = refl
-ended-whole work.SoftReset v e = refl
-ended-whole work.HardwareReset v e = refl
-ended-whole (work.Refresh r) v e = absurd (true≢false (sym e ∙ ap (λ (i : PanelImage). i .interrupted) (ended-image r v)))
+ended-whole : (x : Work) (p : Uc8253) → endedBy x p .image .interrupted ≡ true → endedBy x p .image ≡ p .image
+unfolding endedRefresh published
+ended-whole work.Nothing p e = refl
+ended-whole work.PowerOn p e = refl
+ended-whole work.PowerOff p e = refl
+ended-whole work.DeepSleep p e = refl
+ended-whole work.SoftReset p e = refl
+ended-whole work.HardwareReset p e = refl
+ended-whole (work.Refresh r) p e = absurd (true≢false (sym e))
 
-pub time-marks-none : (t : ℕ) (w : World) → arrived t w .chip .image .interrupted ≡ true → arrived t w .chip .image ≡ w .chip .image
+pub time-marks-none : (t : ℕ) (p : Uc8253) → arrived t p .image .interrupted ≡ true → arrived t p .image ≡ p .image
 unfolding arrived ended
-time-marks-none t w =
-    by-cases (leb (w .chip .operation .until) (max (w .chip .now) t))
-    (λ s. rw s (ended-whole (w .chip .operation .work) (timed t w)))
-    (λ s. rw s (λ e. refl))
-
--- ---- the same of an event that its call takes
-is-reset : (e : Event) (w : World) → asserts e ≡ true → eventDone e w ≡ resetCall own (e .time) true w
-unfolding asserts eventDone eventDoneBy
-is-reset e w a =
-    let k : e .kind ≡ 4 = eqb-true (e .kind) 4 (first (eqb (e .kind) 4) (eqb (e .value) 1) a) in
-    let v : e .value ≡ 1 = eqb-true (e .value) 1 (second (eqb (e .kind) 4) (eqb (e .value) 1) a) in
-    rw (k, v)
-
-is-taken : (e : Event) (w : World) → asserts e ≡ true → eventRefused e w ≡ 0 → turnedBack true (e .time) w ≡ 0
-unfolding asserts eventRefused
-is-taken e w a z =
-    let k : e .kind ≡ 4 = eqb-true (e .kind) 4 (first (eqb (e .kind) 4) (eqb (e .value) 1) a) in
-    let v : e .value ≡ 1 = eqb-true (e .value) 1 (second (eqb (e .kind) 4) (eqb (e .value) 1) a) in
-    rw (k, v) at z
-
-module _ (e : Event) (w : World) (z : eventRefused e w ≡ 0) where
-  pub event-cuts : isCut e (w .chip) ≡ true → CutAt (e .time) w (eventDone e w)
-  unfolding isCut
-  event-cuts c =
-      let a = first (asserts e) (rest (e .time) (w .chip)) c in
-      let b = second (asserts e) (rest (e .time) (w .chip)) c in
-      rw (is-reset e w a) (reset-cuts (e .time) w (is-taken e w a z) b)
-
-  pub event-spares : asserts e ≡ true → isCut e (w .chip) ≡ false → eventDone e w ≡ uncut (arrived (e .time) w)
-  unfolding isCut
-  event-spares a c = is-reset e w a ∙ reset-spares (e .time) w (is-taken e w a z) (rw a at c)
+time-marks-none t p = by-cases (soon t p) (λ s. rw s (ended-whole (p .operation .work) (timed t p))) (λ s. rw s (λ e. refl))

@@ -1,12 +1,13 @@
 // Whether an event cuts the refresh that runs, asked before the event's call.
 ghost use mathlib.Core.Path.{_≡_};
 ghost use Rattle.cuts.specs.Cuts as rule;
+ghost use Rattle.event.specs.Events as events;
 use base::greatest;
 use capture::RESET;
+use controller::Drive;
 use controller::Uc8253;
 use event::Event;
-use rules::elapsed;
-use rules::ends_refresh;
+use rules::drive_at;
 
 // The value of a reset event that asserts the line.
 const ASSERTED: u8 = 1;
@@ -23,39 +24,28 @@ pub enum Found {
     Nothing,
 }
 
-// A refresh ends by reset if the call ends one, and would end none if it did not assert reset.
-fn is_cut(p: Uc8253, event: Event) -> bool
-    ensures { λ r. ⌜ r ≡ rule.isCut event p ⌝ }
+fn asserts(event: Event) -> bool
+    ensures { λ r. ⌜ r ≡ events.asserts event ⌝ }
 {
     if event.kind != RESET {
         return false;
     }
-    if event.value != ASSERTED {
-        return false;
-    }
-    if ends_refresh(p, event.time, false) {
-        return false;
-    }
-    ends_refresh(p, event.time, true)
+    event.value == ASSERTED
 }
 
-// The cut at a time.
-fn cut_at(p: Uc8253, time: u64) -> Cut
-    ensures { λ r. ⌜ r ≡ rule.cutAt time p ⌝ }
-{
-    let waveform = p.waveform;
-    let at = greatest(p.now, time);
-    let frames = elapsed(p, at);
-    let of = waveform.frames();
-    Cut { at, frames, of }
-}
-
+// The refresh is cut where the call drives its first frames alone.
 pub fn cut_by(p: Uc8253, event: Event) -> Found
     ensures { λ r. ⌜ r ≡ rule.cutBy event p ⌝ }
 {
-    if is_cut(p, event) {
-        let c = cut_at(p, event.time);
-        return Found::Cut(c);
+    let drive = drive_at(p, event.time, asserts(event));
+    match drive {
+        Drive::Nothing => Found::Nothing,
+        Drive::Whole => Found::Nothing,
+        Drive::First(frames) => {
+            let waveform = p.waveform;
+            let at = greatest(p.now, event.time);
+            let of = waveform.frames();
+            Found::Cut(Cut { at, frames, of })
+        }
     }
-    Found::Nothing
 }

@@ -1,33 +1,31 @@
-// What a data byte does once its call has arrived, and what a read gives. Neither asks anything of the
-// record or of what is lent.
+// What a data byte and a read do to the record once their call has arrived, what they tell, and where a data byte
+// puts its pixels. Nothing is asked of the record.
+mod pixels;
 mod reading;
 
-pub use reading::ByteRead;
+pub use pixels::put_byte;
 pub use reading::read_byte;
+pub use reading::read_note;
+pub use reading::read_of;
 ghost use mathlib.Core.Path.{_≡_};
-ghost use mathlib.Core.List.{List};
-ghost use Prim.Native.Nat.{ℕ};
-ghost use lib.IntN.{ℤ};
-ghost use Rattle.controller.specs.Setters.{withOld, withNew};
 ghost use Rattle.controller.specs.DataByte as rule;
-ghost use Rattle.controller.specs.Lent.{kept, Turns, TurnsRows, TurnsPlane};
 ghost use Rattle.controller.specs.Counting.{own};
 use command::Kind;
 use command::Params;
 use controller::Active;
 use controller::Current;
+use controller::Note;
 use controller::Uc8253;
 use controller::Use;
 use controller::Work;
 use diagnostic::DiagnosticKind;
-use ram::next;
-use ram::write;
+use pixels::past_note;
+use pixels::pixel_byte;
 use registers::Luts;
 use registers::Registers;
 use rules::counted;
 use rules::purpose;
 use rules::start;
-use rules::tell;
 use rules::with_current;
 
 fn more(a: Active) -> Active
@@ -52,40 +50,6 @@ fn softly(a: Active) -> Active
         extra_reported: true,
         past_reported: a.past_reported,
     }
-}
-
-// A pixel byte past the last row is reported once.
-fn past_window(p: Uc8253, a: Active, rows: &mut [u64]) -> Uc8253
-    ensures { λ r. ⌜ TurnsRows (rule.pastWindow a) p r rows ⌝ }
-{
-    if a.past_reported {
-        return with_current(p, Current::Active(a));
-    }
-    let mut b = a;
-    b.past_reported = true;
-    let q = tell(
-        p,
-        rows,
-        DiagnosticKind::PastTheWindow { command: a.command },
-    );
-    with_current(q, Current::Active(b))
-}
-
-// A pixel byte: eight pixels at the cursor, which goes on.
-fn pixel_byte(p: Uc8253, a: Active, byte: u8, plane: &mut [u8], rows: &mut [u64]) -> Uc8253
-    ensures { λ r. ⌜ TurnsPlane withOld (rule.olderByte a byte) p r plane rows
-        × TurnsPlane withNew (rule.newerByte a byte) p r plane rows ⌝ }
-{
-    let regs = p.regs;
-    let area = regs.written();
-    if area.y1 < a.cursor.y {
-        return past_window(p, a, rows);
-    }
-    write(plane, area, a.cursor.x, a.cursor.y, byte);
-    let cursor = a.cursor;
-    let mut b = a;
-    b.cursor = next(area, cursor);
-    with_current(p, Current::Active(b))
 }
 
 // The registers reset, power off.
@@ -113,16 +77,8 @@ fn register_byte(p: Uc8253, a: Active, byte: u8) -> Uc8253
 }
 
 // A data byte of an active command.
-fn take_byte(
-    p: Uc8253,
-    a: Active,
-    byte: u8,
-    old: &mut [u8],
-    new: &mut [u8],
-    rows: &mut [u64],
-) -> Uc8253
-    ensures { λ r. ⌜ ((states : List ℤ) (numbers picture : List ℕ)
-        → Turns (rule.usedBy own (rule.purposeOf a byte) a byte) p r old new (kept states) (kept numbers) (kept picture) rows) ⌝ }
+fn take_byte(p: Uc8253, a: Active, byte: u8) -> Uc8253
+    ensures { λ r. ⌜ r ≡ rule.usedBy own (rule.purposeOf a byte) a byte p ⌝ }
 {
     let b = more(a);
     let used = purpose(a, byte);
@@ -130,8 +86,7 @@ fn take_byte(
         Use::Extra => {
             let mut e = b;
             e.extra_reported = true;
-            let q = tell(p, rows, DiagnosticKind::ExtraData { command: a.command });
-            with_current(q, Current::Active(e))
+            with_current(p, Current::Active(e))
         }
         Use::Quiet => with_current(p, Current::Active(b)),
         Use::Soft => {
@@ -142,31 +97,54 @@ fn take_byte(
             let q = start(p, Work::DeepSleep, p.config.timing.deep_sleep);
             with_current(q, Current::Active(b))
         }
-        Use::Wrong => {
-            let q = tell(p, rows, DiagnosticKind::WrongCheckCode { code: byte });
-            with_current(q, Current::Active(b))
-        }
+        Use::Wrong => with_current(p, Current::Active(b)),
         Use::Register => {
             let q = register_byte(p, a, byte);
             with_current(q, Current::Active(b))
         }
-        Use::Older => pixel_byte(p, b, byte, old, rows),
-        Use::Newer => pixel_byte(p, b, byte, new, rows),
+        Use::Older => pixel_byte(p, b),
+        Use::Newer => pixel_byte(p, b),
     }
 }
 
-pub fn data_byte(p: Uc8253, byte: u8, old: &mut [u8], new: &mut [u8], rows: &mut [u64]) -> Uc8253
-    ensures { λ r. ⌜ ((states : List ℤ) (numbers picture : List ℕ)
-        → Turns (rule.dataByte own byte) p r old new (kept states) (kept numbers) (kept picture) rows) ⌝ }
+// The record after a data byte.
+pub fn data_byte(p: Uc8253, byte: u8) -> Uc8253
+    ensures { λ r. ⌜ r ≡ rule.dataByte own byte p ⌝ }
 {
     let stage = p.stage;
     let current = stage.current;
     match current {
-        Current::Idle => {
-            let q = tell(p, rows, DiagnosticKind::DataWithoutCommand { data: byte });
-            with_current(q, Current::Ignoring)
-        }
+        Current::Idle => with_current(p, Current::Ignoring),
         Current::Ignoring => p,
-        Current::Active(active) => take_byte(p, active, byte, old, new, rows),
+        Current::Active(active) => take_byte(p, active, byte),
+    }
+}
+
+fn take_note(p: Uc8253, a: Active, byte: u8) -> Note
+    ensures { λ r. ⌜ r ≡ rule.usedNote (rule.purposeOf a byte) a byte p ⌝ }
+{
+    let used = purpose(a, byte);
+    match used {
+        Use::Extra => Note::Told(DiagnosticKind::ExtraData { command: a.command }),
+        Use::Quiet => Note::Quiet,
+        Use::Soft => Note::Quiet,
+        Use::Sleep => Note::Quiet,
+        Use::Wrong => Note::Told(DiagnosticKind::WrongCheckCode { code: byte }),
+        Use::Register => Note::Quiet,
+        Use::Older => past_note(p, a),
+        Use::Newer => past_note(p, a),
+    }
+}
+
+// What a data byte tells.
+pub fn data_note(p: Uc8253, byte: u8) -> Note
+    ensures { λ r. ⌜ r ≡ rule.dataNote byte p ⌝ }
+{
+    let stage = p.stage;
+    let current = stage.current;
+    match current {
+        Current::Idle => Note::Told(DiagnosticKind::DataWithoutCommand { data: byte }),
+        Current::Ignoring => Note::Quiet,
+        Current::Active(active) => take_note(p, active, byte),
     }
 }

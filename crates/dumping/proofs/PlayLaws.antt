@@ -73,8 +73,8 @@ take-back {A = A} l x p n e h = elim (decLe p (length l)) [
       ap (λ (r : List A). take p (x ++ r)) (drop-of-length-le l m) ∙ ap (take p) (append-nil x) ∙ take-all p x short
 ]
 
-module _ (config : List ℕ) (b : Buffers) (p n k q : ℕ) (ep : p ≡ panelSize config)
-    (en : n ≡ min p (length (b .states))) (ek : k ≡ min p (length (b .numbers))) (eq : q ≡ min p (length (b .picture))) where
+module _ (config : List ℕ) (b : Buffers) (p n q : ℕ) (ep : p ≡ panelSize config)
+    (en : n ≡ min p (length (b .states))) (eq : q ≡ min p (length (b .picture))) where
   cut-is : {A : Type 0} (l : List A) (m : ℕ) → m ≡ min p (length l) → take m l ≡ take (panelSize config) l
   cut-is l m e = ap (λ (j : ℕ). take j l) e ∙ take-cut l p ∙ ap (λ (j : ℕ). take j l) ep
 
@@ -83,25 +83,22 @@ module _ (config : List ℕ) (b : Buffers) (p n k q : ℕ) (ep : p ≡ panelSize
   back-is l x m e h = ap (λ (j : ℕ). take j (x ++ drop m l)) (sym ep) ∙ take-back l x p m e h
 
   abbrev lentOn : Buffers
-  lentOn = buffers (b .old) (b .new) (take n (b .states)) (take k (b .numbers)) (take q (b .picture)) (b .rows)
+  lentOn = buffers (b .old) (b .new) (take n (b .states)) (take q (b .picture)) (b .rows)
 
   lent-is : lentOn ≡ fitted config b
-  lent-is = λ i.
-      buffers (b .old) (b .new) (cut-is (b .states) n en i) (cut-is (b .numbers) k ek i) (cut-is (b .picture) q eq i) (b .rows)
+  lent-is = λ i. buffers (b .old) (b .new) (cut-is (b .states) n en i) (cut-is (b .picture) q eq i) (b .rows)
 
   abbrev given : Buffers → Buffers
-  given x =
-      buffers (x .old) (x .new) (x .states ++ drop n (b .states)) (x .numbers ++ drop k (b .numbers)) (x .picture ++ drop q (b .picture))
-      (x .rows)
+  given x = buffers (x .old) (x .new) (x .states ++ drop n (b .states)) (x .picture ++ drop q (b .picture)) (x .rows)
 
   pub fitted-dumps : (r : Dumped) (most longest : ℕ) (x : Buffers) → length (x .states) ≡ length (take n (b .states))
-      → length (x .numbers) ≡ length (take k (b .numbers)) → length (x .picture) ≡ length (take q (b .picture))
+      → length (x .picture) ≡ length (take q (b .picture))
       → Dumps r config most longest lentOn (world (r .chip) x)
       → Dumps r config most longest (fitted config b) (world (r .chip) (fitted config (given x)))
-  fitted-dumps r most longest x hs hn hp g =
+  fitted-dumps r most longest x hs hp g =
       let back : x ≡ fitted config (given x) = sym (λ i.
-      buffers (x .old) (x .new) (back-is (b .states) (x .states) n en hs i) (back-is (b .numbers) (x .numbers) k ek hn i)
-      (back-is (b .picture) (x .picture) q eq hp i) (x .rows)) in
+      buffers (x .old) (x .new) (back-is (b .states) (x .states) n en hs i) (back-is (b .picture) (x .picture) q eq hp i)
+      (x .rows)) in
       record {
         dump = g .dump;
         came-to = subst (λ (y : Buffers). CameTo (r .came) config (g .dump) most longest y (world (r .chip) (fitted config (given x)))) lent-is

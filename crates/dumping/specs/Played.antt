@@ -53,7 +53,7 @@ panelSize config = pixelCount (configOf config 0)
 abbrev pub fitted : List ℕ → Buffers → Buffers
 fitted config b =
     let n = panelSize config in
-    buffers (b .old) (b .new) (take n (b .states)) (take n (b .numbers)) (take n (b .picture)) (b .rows)
+    buffers (b .old) (b .new) (take n (b .states)) (take n (b .picture)) (b .rows)
 
 -- a job leaves of what is lent what some configuration and some dump come to; a configuration of a wrong length leaves all as it was
 pub record Ran (r : Came) (most longest : ℕ) (b u : Buffers) : Type 0 where

@@ -155,13 +155,12 @@ fn with_dump(
     old: &mut [u8],
     new: &mut [u8],
     states: &mut [i64],
-    numbers: &mut [u8],
     picture: &mut [u8],
     rows: &mut [u64],
 ) -> Came
     requires { ⌜ length (now config) ≡ 312 ⌝ }
     ensures { λ r. ⌜ Ran r (length (now (kept .exit))) (length (now (word .exit)))
-        (before old new states numbers picture rows) (after old new states numbers picture rows) ⌝ }
+        (before old new states picture rows) (after old new states picture rows) ⌝ }
 {
     let mut text = [0u8; 256];
     let d = play(
@@ -174,7 +173,6 @@ fn with_dump(
         old,
         new,
         states,
-        numbers,
         picture,
         rows,
     );
@@ -212,13 +210,12 @@ fn with_kept(
     old: &mut [u8],
     new: &mut [u8],
     states: &mut [i64],
-    numbers: &mut [u8],
     picture: &mut [u8],
     rows: &mut [u64],
 ) -> Came
     requires { ⌜ length (now config) ≡ 312 ⌝ }
     ensures { λ r. ⌜ Ran r 1_048_576 (length (now (word .exit)))
-        (before old new states numbers picture rows) (after old new states numbers picture rows) ⌝ }
+        (before old new states picture rows) (after old new states picture rows) ⌝ }
 {
     let mut kept = [0u8; KEPT];
     with_dump(
@@ -234,7 +231,6 @@ fn with_kept(
         old,
         new,
         states,
-        numbers,
         picture,
         rows,
     )
@@ -252,13 +248,12 @@ fn with_config(
     old: &mut [u8],
     new: &mut [u8],
     states: &mut [i64],
-    numbers: &mut [u8],
     picture: &mut [u8],
     rows: &mut [u64],
 ) -> Came
     requires { ⌜ length (now config) ≡ 312 ⌝ }
     ensures { λ r. ⌜ Ran r 1_048_576 (length (now (word .exit)))
-        (before old new states numbers picture rows) (after old new states numbers picture rows) ⌝ }
+        (before old new states picture rows) (after old new states picture rows) ⌝ }
 {
     let fd = open(name);
     if fd < 0 {
@@ -277,7 +272,6 @@ fn with_config(
         old,
         new,
         states,
-        numbers,
         picture,
         rows,
     );
@@ -297,12 +291,11 @@ pub fn run(
     old: &mut [u8],
     new: &mut [u8],
     states: &mut [i64],
-    numbers: &mut [u8],
     picture: &mut [u8],
     rows: &mut [u64],
 ) -> Came
     ensures { λ r. ⌜ Ran r 1_048_576 (length (now (word .exit)))
-        (before old new states numbers picture rows) (after old new states numbers picture rows) ⌝ }
+        (before old new states picture rows) (after old new states picture rows) ⌝ }
 {
     let mut config = [0u8; CONFIG_ROOM];
     let got = files::read(config_name, &mut config);
@@ -321,7 +314,6 @@ pub fn run(
                     old,
                     new,
                     states,
-                    numbers,
                     picture,
                     rows,
                 );

@@ -70,15 +70,14 @@ fn play_in(
     old: &mut [u8],
     new: &mut [u8],
     states: &mut [i64],
-    numbers: &mut [u8],
     picture: &mut [u8],
     rows: &mut [u64],
 ) -> Dumped
     requires { ⌜ length (now config) ≡ 312 ⌝ }
     ensures { λ r. ⌜ rule.Dumps r (now (config .entry)) (length (now (kept .exit))) (length (now (word .exit)))
-        (before old new states numbers picture rows) (world (r .chip) (after old new states numbers picture rows)) ⌝ }
+        (before old new states picture rows) (world (r .chip) (after old new states picture rows)) ⌝ }
 {
-    let made = make(config, old, new, states, numbers, picture, rows);
+    let made = make(config, old, new, states, picture, rows);
     let p = made.chip;
     let refused = made.refused;
     let c = read_dump(
@@ -91,7 +90,6 @@ fn play_in(
         old,
         new,
         states,
-        numbers,
         picture,
         rows,
     );
@@ -123,19 +121,17 @@ pub(crate) fn play(
     old: &mut [u8],
     new: &mut [u8],
     states: &mut [i64],
-    numbers: &mut [u8],
     picture: &mut [u8],
     rows: &mut [u64],
 ) -> Dumped
     requires { ⌜ length (now config) ≡ 312 ⌝ }
     ensures { λ r. ⌜ rule.Dumps r (now (config .entry)) (length (now (kept .exit))) (length (now (word .exit)))
-        (rule.fitted (now (config .entry)) (before old new states numbers picture rows))
-        (world (r .chip) (rule.fitted (now (config .entry)) (after old new states numbers picture rows))) ⌝ }
+        (rule.fitted (now (config .entry)) (before old new states picture rows))
+        (world (r .chip) (rule.fitted (now (config .entry)) (after old new states picture rows))) ⌝ }
 {
     let c = config_of(config);
     let most = pixels(c);
     let n = cut(most, states.len());
-    let k = cut(most, numbers.len());
     let q = cut(most, picture.len());
     play_in(
         config,
@@ -147,7 +143,6 @@ pub(crate) fn play(
         old,
         new,
         &mut states[..n],
-        &mut numbers[..k],
         &mut picture[..q],
         rows,
     )

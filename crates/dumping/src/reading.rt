@@ -82,28 +82,15 @@ fn play_piece(
     old: &mut [u8],
     new: &mut [u8],
     states: &mut [i64],
-    numbers: &mut [u8],
     picture: &mut [u8],
     rows: &mut [u64],
 ) -> Gone
     ensures { λ q. ⌜ rule.Steps (now (piece .entry)) (g .reader) q (now (kept .entry)) (now (word .entry)) (now (kept .exit)) (now (word .exit))
-        (world (g .chip) (before old new states numbers picture rows)) (world (q .chip) (after old new states numbers picture rows)) ⌝ }
+        (world (g .chip) (before old new states picture rows)) (world (q .chip) (after old new states picture rows)) ⌝ }
 {
     let p = g.chip;
     let r = g.reader;
-    let s = part(
-        r,
-        p,
-        piece,
-        kept,
-        word,
-        old,
-        new,
-        states,
-        numbers,
-        picture,
-        rows,
-    );
+    let s = part(r, p, piece, kept, word, old, new, states, picture, rows);
     let chip = s.chip;
     let reader = s.reader;
     if is_settled(reader) {
@@ -138,13 +125,12 @@ fn play_chunk(
     old: &mut [u8],
     new: &mut [u8],
     states: &mut [i64],
-    numbers: &mut [u8],
     picture: &mut [u8],
     rows: &mut [u64],
 ) -> Gone
     requires { ⌜ rule.isOn (g .course) ≡ true ⌝ }
     ensures { λ q. ⌜ rule.Plays (now (bytes .entry)) (g .reader) q (now (kept .entry)) (now (word .entry)) (now (kept .exit)) (now (word .exit))
-        (world (g .chip) (before old new states numbers picture rows)) (world (q .chip) (after old new states numbers picture rows)) ⌝ }
+        (world (g .chip) (before old new states picture rows)) (world (q .chip) (after old new states picture rows)) ⌝ }
 {
     let mut q = g;
     let mut from: usize = 0;
@@ -160,7 +146,6 @@ fn play_chunk(
             old,
             new,
             states,
-            numbers,
             picture,
             rows,
         );
@@ -229,13 +214,12 @@ fn next_chunk(
     old: &mut [u8],
     new: &mut [u8],
     states: &mut [i64],
-    numbers: &mut [u8],
     picture: &mut [u8],
     rows: &mut [u64],
 ) -> Gone
     requires { ⌜ rule.isOn (g .course) ≡ true ⌝ }
-    ensures { λ q. ⌜ ((w : World) → rule.Stood g (now (kept .entry)) (now (word .entry)) w (world (g .chip) (before old new states numbers picture rows))
-        → rule.Stood q (now (kept .exit)) (now (word .exit)) w (world (q .chip) (after old new states numbers picture rows))) ⌝ }
+    ensures { λ q. ⌜ ((w : World) → rule.Stood g (now (kept .entry)) (now (word .entry)) w (world (g .chip) (before old new states picture rows))
+        → rule.Stood q (now (kept .exit)) (now (word .exit)) w (world (q .chip) (after old new states picture rows))) ⌝ }
 {
     let got = read_all(fd, chunk);
     match got {
@@ -252,7 +236,6 @@ fn next_chunk(
                 old,
                 new,
                 states,
-                numbers,
                 picture,
                 rows,
             );
@@ -273,12 +256,11 @@ fn read_chunks(
     old: &mut [u8],
     new: &mut [u8],
     states: &mut [i64],
-    numbers: &mut [u8],
     picture: &mut [u8],
     rows: &mut [u64],
 ) -> Gone
-    ensures { λ q. ⌜ rule.Stood q (now (kept .exit)) (now (word .exit)) (world p (before old new states numbers picture rows))
-        (world (q .chip) (after old new states numbers picture rows)) ⌝ }
+    ensures { λ q. ⌜ rule.Stood q (now (kept .exit)) (now (word .exit)) (world p (before old new states picture rows))
+        (world (q .chip) (after old new states picture rows)) ⌝ }
 {
     let mut g = begin(p);
     let mut turns = base::TOP;
@@ -293,7 +275,6 @@ fn read_chunks(
             old,
             new,
             states,
-            numbers,
             picture,
             rows,
         );
@@ -368,27 +349,15 @@ fn close_dump(
     old: &mut [u8],
     new: &mut [u8],
     states: &mut [i64],
-    numbers: &mut [u8],
     picture: &mut [u8],
     rows: &mut [u64],
 ) -> Closed
-    ensures { λ c. ⌜ ((w : World) → rule.Stood g (now (kept .entry)) (now (word .entry)) w (world (g .chip) (before old new states numbers picture rows))
-        → rule.Read c (length (now (kept .entry))) (length (now (word .entry))) w (world (c .chip) (after old new states numbers picture rows))) ⌝ }
+    ensures { λ c. ⌜ ((w : World) → rule.Stood g (now (kept .entry)) (now (word .entry)) w (world (g .chip) (before old new states picture rows))
+        → rule.Read c (length (now (kept .entry))) (length (now (word .entry))) w (world (c .chip) (after old new states picture rows))) ⌝ }
 {
     let p = g.chip;
     let reader = g.reader;
-    let c = close(
-        reader,
-        p,
-        kept,
-        word,
-        old,
-        new,
-        states,
-        numbers,
-        picture,
-        rows,
-    );
+    let c = close(reader, p, kept, word, old, new, states, picture, rows);
     let chip = c.chip;
     let ending = c.ending;
     let told = why(ending, text, reader, kept, word, g.lines);
@@ -411,12 +380,11 @@ pub(crate) fn read_dump(
     old: &mut [u8],
     new: &mut [u8],
     states: &mut [i64],
-    numbers: &mut [u8],
     picture: &mut [u8],
     rows: &mut [u64],
 ) -> Closed
-    ensures { λ c. ⌜ rule.Read c (length (now (kept .exit))) (length (now (word .exit))) (world p (before old new states numbers picture rows))
-        (world (c .chip) (after old new states numbers picture rows)) ⌝ }
+    ensures { λ c. ⌜ rule.Read c (length (now (kept .exit))) (length (now (word .exit))) (world p (before old new states picture rows))
+        (world (c .chip) (after old new states picture rows)) ⌝ }
 {
     let g = read_chunks(
         p,
@@ -428,24 +396,12 @@ pub(crate) fn read_dump(
         old,
         new,
         states,
-        numbers,
         picture,
         rows,
     );
     let course = g.course;
     if is_open(course) {
-        return close_dump(
-            g,
-            text,
-            kept,
-            word,
-            old,
-            new,
-            states,
-            numbers,
-            picture,
-            rows,
-        );
+        return close_dump(g, text, kept, word, old, new, states, picture, rows);
     }
     let chip = g.chip;
     let reader = g.reader;

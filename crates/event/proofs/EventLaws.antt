@@ -15,9 +15,9 @@ use Rattle.base.proofs.Lists.{getD-past}
 use Rattle.base.proofs.Sorting.{Rest}
 use Rattle.controller.specs.World.{World}
 use Rattle.controller.specs.TurnedBack.{turnedBack}
-use Rattle.controller.specs.Calls.{commandCall, dataCall, readCall, readAnswer, resetCall, advanceCall, vcomCall}
+use Rattle.controller.specs.Calls.{readAnswer}
+use Rattle.controller.specs.Ask.{command, datum, reading, advance, reset, vcomRule, did}
 use Rattle.controller.specs.Ask.{Answer, nothing, byte, count, low, due, bit, part, wide}
-use Rattle.controller.specs.Counting.{own}
 use Rattle.event.specs.declared.Event.{Event}
 use Rattle.capture.specs.Little.{little}
 use Rattle.event.specs.Events.{eventAt, asserts, eventDone, eventDoneBy, eventRefused, readNumber, eventAnswer}
@@ -30,29 +30,29 @@ pub record Does (e : Event) (w v : World) (refused answer : ℕ) : Type 0 where
   pub gives : answer ≡ eventAnswer e w
 
 module _ (e : Event) (w v : World) (n : ℕ) where
-  pub does-command : e .kind ≡ 1 → v ≡ commandCall own (e .time) (e .value) w → n ≡ turnedBack false (e .time) w → Does e w v n 257
+  pub does-command : e .kind ≡ 1 → v ≡ did (command (e .time) (e .value)) w → n ≡ turnedBack false (e .time) w → Does e w v n 257
   unfolding eventDone eventDoneBy eventRefused eventAnswer asserts
   does-command k h r = record { done = rw k h; turned = rw k r; gives = rw k }
 
-  pub does-data : e .kind ≡ 2 → v ≡ dataCall own (e .time) (e .value) w → n ≡ turnedBack false (e .time) w → Does e w v n 257
+  pub does-data : e .kind ≡ 2 → v ≡ did (datum (e .time) (e .value)) w → n ≡ turnedBack false (e .time) w → Does e w v n 257
   unfolding eventDone eventDoneBy eventRefused eventAnswer asserts
   does-data k h r = record { done = rw k h; turned = rw k r; gives = rw k }
 
-  pub does-read : (b : ℕ) → e .kind ≡ 3 → v ≡ readCall (e .time) w → n ≡ turnedBack false (e .time) w
+  pub does-read : (b : ℕ) → e .kind ≡ 3 → v ≡ did (reading (e .time)) w → n ≡ turnedBack false (e .time) w
       → b ≡ readNumber (readAnswer (e .time) w) → Does e w v n b
   unfolding eventDone eventDoneBy eventRefused eventAnswer asserts
   does-read b k h r a = record { done = rw k h; turned = rw k r; gives = rw k a }
 
-  pub does-reset : e .kind ≡ 4 → v ≡ resetCall own (e .time) (eqb (e .value) 1) w → n ≡ turnedBack (eqb (e .value) 1) (e .time) w
+  pub does-reset : e .kind ≡ 4 → v ≡ did (reset (e .time) (eqb (e .value) 1)) w → n ≡ turnedBack (eqb (e .value) 1) (e .time) w
       → Does e w v n 257
   unfolding eventDone eventDoneBy eventRefused eventAnswer asserts
   does-reset k h r = record { done = rw k h; turned = rw k r; gives = rw k }
 
-  pub does-advance : e .kind ≡ 5 → v ≡ advanceCall (e .time) w → n ≡ turnedBack false (e .time) w → Does e w v n 257
+  pub does-advance : e .kind ≡ 5 → v ≡ did (advance (e .time)) w → n ≡ turnedBack false (e .time) w → Does e w v n 257
   unfolding eventDone eventDoneBy eventRefused eventAnswer asserts
   does-advance k h r = record { done = rw k h; turned = rw k r; gives = rw k }
 
-  pub does-rule : e .kind ≡ 6 → v ≡ vcomCall (e .time) (eqb (e .value) 2) w → n ≡ turnedBack false (e .time) w → Does e w v n 257
+  pub does-rule : e .kind ≡ 6 → v ≡ did (vcomRule (e .time) (eqb (e .value) 2)) w → n ≡ turnedBack false (e .time) w → Does e w v n 257
   unfolding eventDone eventDoneBy eventRefused eventAnswer asserts
   does-rule k h r = record { done = rw k h; turned = rw k r; gives = rw k }
 

@@ -46,7 +46,10 @@ event-same e w h r =
     rw (
       did-same (command (e .time) (e .value)) w (r .rate) (r .clock) h,
       did-same (datum (e .time) (e .value)) w (r .rate) (r .clock) h,
+      did-same (reading (e .time)) w (r .rate) (r .clock) h,
       did-same (reset (e .time) (eqb (e .value) 1)) w (r .rate) (r .clock) h,
+      did-same (advance (e .time)) w (r .rate) (r .clock) h,
+      did-same (vcomRule (e .time) (eqb (e .value) 2)) w (r .rate) (r .clock) h,
     )
 
 ready-event : (e : Event) (w : World) → e .time ≤ top → Ready w → Ready (eventDone e w)

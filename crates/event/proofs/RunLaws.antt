@@ -1,6 +1,5 @@
 -- A run of events: two runs joined, and that on a sound record no event is turned back and it stays sound.
 use mathlib.Core.Path.{_≡_, refl, sym, ap, _∙_}
-use mathlib.Core.Bool.{Bool, false}
 use mathlib.Core.List.{List}
 use Prim.Native.Nat.{ℕ, _+_, _*_, _<_, _≤_}
 use native.Mathlib.Omega.{arith}
@@ -14,11 +13,9 @@ use Rattle.base.proofs.Cases.{both}
 use Rattle.base.proofs.Lists.{getD-past}
 use Rattle.base.proofs.Turns.{turns-join, turns-same, turns-keep}
 use Rattle.controller.specs.World.{World}
-use Rattle.controller.specs.TurnedBack.{turnedBack}
-use Rattle.controller.specs.Arrives.{arrived}
-use Rattle.controller.specs.Calls.{called}
+use Rattle.controller.specs.Ask.{Ask, command, datum, reading, advance, reset, vcomRule, IsByte, refusedBy, didBy, did}
 use Rattle.controller.specs.Sound.{Sound}
-use Rattle.controller.proofs.Sound.{sound-arrived, sound-command, sound-data, sound-reading, sound-reset, sound-ruled, never-turned}
+use Rattle.controller.proofs.Sound.{sound-done, never-turned}
 use Rattle.event.specs.declared.Event.{Event}
 use Rattle.event.specs.Events.{eventsIn, eventAt, ran, asserts, eventDone, eventDoneBy, eventRefused, eventAnswer, ranTo, answersTo, earlier, refusedIn}
 use Rattle.event.proofs.EventLaws.{event-drop}
@@ -51,19 +48,19 @@ ran-none bytes w h =
     ap (λ (k : ℕ). ranTo bytes k w) n
 
 -- ---- a sound record
-sound-called : (a : Bool) (t : ℕ) (f : World → World) (w : World) → ((v : World) → Sound v → Sound (f v)) → Sound w → Sound (called a t f w)
-unfolding called
-sound-called a t f w k s = both Sound (eqb (turnedBack a t w) 0) (k (arrived t w) (sound-arrived t w s)) s
+sound-did : (a : Ask) (w : World) → IsByte a → Sound w → Sound (did a w)
+unfolding didBy
+sound-did a w b s = both Sound (eqb (refusedBy a w) 0) (sound-done a w b s) s
 
 pub sound-event : (e : Event) (w : World) → e .value < 256 → Sound w → Sound (eventDone e w)
 unfolding eventDone eventDoneBy
 sound-event e w h s =
-    both Sound (eqb (e .kind) 1) (sound-called false (e .time) _ w (λ v. sound-command (e .value) v h) s)
-    (both Sound (eqb (e .kind) 2) (sound-called false (e .time) _ w (λ v. sound-data (e .value) v h) s)
-    (both Sound (eqb (e .kind) 3) (sound-called false (e .time) _ w sound-reading s)
-    (both Sound (eqb (e .kind) 4) (sound-called (eqb (e .value) 1) (e .time) _ w (sound-reset (eqb (e .value) 1)) s)
-    (both Sound (eqb (e .kind) 5) (sound-called false (e .time) _ w (λ v q. q) s)
-    (both Sound (eqb (e .kind) 6) (sound-called false (e .time) _ w (sound-ruled (eqb (e .value) 2)) s)
+    both Sound (eqb (e .kind) 1) (sound-did (command (e .time) (e .value)) w h s)
+    (both Sound (eqb (e .kind) 2) (sound-did (datum (e .time) (e .value)) w h s)
+    (both Sound (eqb (e .kind) 3) (sound-did (reading (e .time)) w tt s)
+    (both Sound (eqb (e .kind) 4) (sound-did (reset (e .time) (eqb (e .value) 1)) w tt s)
+    (both Sound (eqb (e .kind) 5) (sound-did (advance (e .time)) w tt s)
+    (both Sound (eqb (e .kind) 6) (sound-did (vcomRule (e .time) (eqb (e .value) 2)) w tt s)
     s)))))
 
 pub event-taken : (e : Event) (w : World) → Sound w → eventRefused e w ≡ 0

@@ -10,7 +10,8 @@ use Rattle.controller.specs.declared.reads.Read.{Read}
 use Rattle.controller.specs.declared.reads.Read.the-variants.{Byte, Nothing}
 use Rattle.controller.specs.World.{World}
 use Rattle.controller.specs.TurnedBack.{turnedBack}
-use Rattle.controller.specs.Calls.{commandCall, dataCall, readCall, readAnswer, resetCall, advanceCall, vcomCall}
+use Rattle.controller.specs.Calls.{readAnswer}
+use Rattle.controller.specs.Ask.{command, datum, reading, advance, reset, vcomRule, didBy}
 use Rattle.controller.specs.declared.Uc8253.{Uc8253}
 use Rattle.controller.specs.Counting.{Counting, own}
 use Rattle.event.specs.declared.Event.{Event}
@@ -32,12 +33,12 @@ asserts e = eqb (e .kind) 4 && eqb (e .value) 1
 -- conversions (2026-05)
 unfoldable pub eventDoneBy : (Uc8253 → Counting) → Event → World → World
 eventDoneBy clock e w =
-    pick (eqb (e .kind) 1) (commandCall clock (e .time) (e .value) w)
-    (pick (eqb (e .kind) 2) (dataCall clock (e .time) (e .value) w)
-    (pick (eqb (e .kind) 3) (readCall (e .time) w)
-    (pick (eqb (e .kind) 4) (resetCall clock (e .time) (eqb (e .value) 1) w)
-    (pick (eqb (e .kind) 5) (advanceCall (e .time) w)
-    (pick (eqb (e .kind) 6) (vcomCall (e .time) (eqb (e .value) 2) w)
+    pick (eqb (e .kind) 1) (didBy clock (command (e .time) (e .value)) w)
+    (pick (eqb (e .kind) 2) (didBy clock (datum (e .time) (e .value)) w)
+    (pick (eqb (e .kind) 3) (didBy clock (reading (e .time)) w)
+    (pick (eqb (e .kind) 4) (didBy clock (reset (e .time) (eqb (e .value) 1)) w)
+    (pick (eqb (e .kind) 5) (didBy clock (advance (e .time)) w)
+    (pick (eqb (e .kind) 6) (didBy clock (vcomRule (e .time) (eqb (e .value) 2)) w)
     w)))))
 
 -- by the record's own

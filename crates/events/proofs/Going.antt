@@ -15,7 +15,6 @@ pub record SameLengths (b l : Buffers) : Type 0 where
   pub old-long : length (l .old) ≡ length (b .old)
   pub new-long : length (l .new) ≡ length (b .new)
   pub states-long : length (l .states) ≡ length (b .states)
-  pub numbers-long : length (l .numbers) ≡ length (b .numbers)
   pub picture-long : length (l .picture) ≡ length (b .picture)
   pub rows-long : length (l .rows) ≡ length (b .rows)
 
@@ -25,7 +24,7 @@ unfolding ranTo answersTo refusedIn
 going-first bytes w answers = record { is = refl; gave = refl; turned = refl }
 
 pub lengths-first : (b : Buffers) → SameLengths b b
-lengths-first b = record { old-long = refl; new-long = refl; states-long = refl; numbers-long = refl; picture-long = refl; rows-long = refl }
+lengths-first b = record { old-long = refl; new-long = refl; states-long = refl; picture-long = refl; rows-long = refl }
 
 pub lengths-more : {b l m : Buffers} → SameLengths b l → SameLengths l m → SameLengths b m
 lengths-more g h =
@@ -33,7 +32,6 @@ lengths-more g h =
       old-long = h .old-long ∙ g .old-long;
       new-long = h .new-long ∙ g .new-long;
       states-long = h .states-long ∙ g .states-long;
-      numbers-long = h .numbers-long ∙ g .numbers-long;
       picture-long = h .picture-long ∙ g .picture-long;
       rows-long = h .rows-long ∙ g .rows-long;
     }

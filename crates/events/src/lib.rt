@@ -80,16 +80,15 @@ fn next_events(
     old: &mut [u8],
     new: &mut [u8],
     states: &mut [i64],
-    numbers: &mut [u8],
     picture: &mut [u8],
     rows: &mut [u64],
 ) -> Went
     requires { ⌜ from < rule.eventsIn (now events) ⌝ }
-    ensures { λ r. ⌜ stretch.Goes (now (events .entry)) from (r .done) (world p (before old new states numbers picture rows))
-        (world (r .chip) (after old new states numbers picture rows)) (now (answers .entry)) (now (answers .exit))
+    ensures { λ r. ⌜ stretch.Goes (now (events .entry)) from (r .done) (world p (before old new states picture rows))
+        (world (r .chip) (after old new states picture rows)) (now (answers .entry)) (now (answers .exit))
         (refusalNumber (r .refused)) ⌝ }
 {
-    let f = stream(p, events, from, old, new, states, numbers, picture, rows);
+    let f = stream(p, events, from, old, new, states, picture, rows);
     let chip = f.chip;
     if f.done != 0 {
         mark(answers, from, f.done);
@@ -100,7 +99,7 @@ fn next_events(
         };
     }
     let event = event_at(events, from);
-    let s = step(chip, event, old, new, states, numbers, picture, rows);
+    let s = step(chip, event, old, new, states, picture, rows);
     put(answers, from, s.answer);
     let after = s.chip;
     let refused = s.refused;
@@ -119,32 +118,20 @@ pub fn run(
     old: &mut [u8],
     new: &mut [u8],
     states: &mut [i64],
-    numbers: &mut [u8],
     picture: &mut [u8],
     rows: &mut [u64],
 ) -> Ran
     ensures { λ r. ⌜ Done (rule.ran (now (events .entry))) (rule.refused (now (events .entry))) p (r .chip) (r .refused)
-        old new states numbers picture rows ⌝ }
+        old new states picture rows ⌝ }
     ensures { λ r. ⌜ Gives (rule.answers (now (events .entry)) (now (answers .entry))) p (now (answers .exit))
-        old new states numbers picture rows ⌝ }
+        old new states picture rows ⌝ }
 {
     let count = events.len() / EVENT_BYTES;
     let mut chip = p;
     let mut refused = Refusal::Nothing;
     let mut i: usize = 0;
     while i < count {
-        let s = next_events(
-            chip,
-            events,
-            i,
-            answers,
-            old,
-            new,
-            states,
-            numbers,
-            picture,
-            rows,
-        );
+        let s = next_events(chip, events, i, answers, old, new, states, picture, rows);
         chip = s.chip;
         let turned = s.refused;
         refused = earlier(refused, turned);

@@ -23,30 +23,19 @@ pub fn play(
     old: &mut [u8],
     new: &mut [u8],
     states: &mut [i64],
-    numbers: &mut [u8],
     picture: &mut [u8],
     rows: &mut [u64],
 ) -> Played
     ensures { λ r. ⌜ Makes (rule.played config (now (events .entry))) (makingRefused config) (r .chip) (r .refused)
-        old new states numbers picture rows ⌝ }
+        old new states picture rows ⌝ }
     ensures { λ r. ⌜ now (answers .exit)
-        ≡ rule.answersPlayed config (now (events .entry)) (before old new states numbers picture rows) (now (answers .entry)) ⌝ }
+        ≡ rule.answersPlayed config (now (events .entry)) (before old new states picture rows) (now (answers .entry)) ⌝ }
 {
-    let made = power_on(config, old, new, states, numbers, picture, rows);
+    let made = power_on(config, old, new, states, picture, rows);
     let chip = made.chip;
     let refused = made.refused;
     if refused.none() {
-        let ran = run(
-            chip,
-            events,
-            answers,
-            old,
-            new,
-            states,
-            numbers,
-            picture,
-            rows,
-        );
+        let ran = run(chip, events, answers, old, new, states, picture, rows);
         let last = ran.chip;
         return Played {
             chip: last,

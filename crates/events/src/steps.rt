@@ -75,34 +75,23 @@ pub fn step(
     old: &mut [u8],
     new: &mut [u8],
     states: &mut [i64],
-    numbers: &mut [u8],
     picture: &mut [u8],
     rows: &mut [u64],
 ) -> Stepped
     ensures { λ r. ⌜ Done (rule.eventDone event) (rule.eventRefused event) p (r .chip) (r .refused)
-        old new states numbers picture rows ⌝ }
-    ensures { λ r. ⌜ Gives (rule.eventAnswer event) p (r .answer) old new states numbers picture rows ⌝ }
+        old new states picture rows ⌝ }
+    ensures { λ r. ⌜ Gives (rule.eventAnswer event) p (r .answer) old new states picture rows ⌝ }
 {
     let at = event.time;
     let value = event.value;
     let kind = event.kind;
     match kind {
-        COMMAND => no_read(write_command(p, at, value, old, new, states, numbers, picture, rows)),
-        DATA => no_read(write_data(p, at, value, old, new, states, numbers, picture, rows)),
-        READ => with_byte(read_data(p, at, old, new, states, numbers, picture, rows)),
-        RESET => no_read(set_reset(p, at, value == 1, old, new, states, numbers, picture, rows)),
-        ADVANCE => no_read(advance(p, at, old, new, states, numbers, picture, rows)),
-        VCOM_RULE => no_read(set_vcom_rule(
-            p,
-            at,
-            value == 2,
-            old,
-            new,
-            states,
-            numbers,
-            picture,
-            rows,
-        )),
+        COMMAND => no_read(write_command(p, at, value, old, new, states, picture, rows)),
+        DATA => no_read(write_data(p, at, value, old, new, states, picture, rows)),
+        READ => with_byte(read_data(p, at, old, new, states, picture, rows)),
+        RESET => no_read(set_reset(p, at, value == 1, old, new, states, picture, rows)),
+        ADVANCE => no_read(advance(p, at, old, new, states, picture, rows)),
+        VCOM_RULE => no_read(set_vcom_rule(p, at, value == 2, old, new, states, picture, rows)),
         _ => Stepped {
             chip: p,
             refused: Refusal::Nothing,

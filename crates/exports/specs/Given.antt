@@ -43,9 +43,9 @@ given a h b =
     givenOf h (did a w .chip) (refusedBy a w) (answerNumber (answered a w))
 
 abbrev pub Passes : Ask → Handed → Given → Over (Type 0)
-Passes a h g old new states numbers picture rows =
-    let b = before old new states numbers picture rows in
-    (g ≡ given a h b) × (after old new states numbers picture rows ≡ did a (world (recordTaken h) b) .lent)
+Passes a h g old new states picture rows =
+    let b = before old new states picture rows in
+    (g ≡ given a h b) × (after old new states picture rows ≡ did a (world (recordTaken h) b) .lent)
 
 -- a making: the numbers of the record that it gives, of zeros where it is refused
 abbrev pub madeGiven : Uc8253Config → Buffers → Given

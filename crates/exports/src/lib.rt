@@ -99,16 +99,15 @@ pub extern "C" fn jollanqe_make(
     old: &mut [u8],
     new: &mut [u8],
     states: &mut [i64],
-    numbers: &mut [u8],
     picture: &mut [u8],
     rows: &mut [u64],
 ) -> Given
-    ensures { λ r. ⌜ r ≡ rule.madeGiven (configIn (now (file .entry))) (before old new states numbers picture rows) ⌝ }
-    ensures { λ r. ⌜ after old new states numbers picture rows
-        ≡ made (configIn (now (file .entry))) (before old new states numbers picture rows) .lent ⌝ }
+    ensures { λ r. ⌜ r ≡ rule.madeGiven (configIn (now (file .entry))) (before old new states picture rows) ⌝ }
+    ensures { λ r. ⌜ after old new states picture rows
+        ≡ made (configIn (now (file .entry))) (before old new states picture rows) .lent ⌝ }
 {
     let config = config(file);
-    let a = power_on(config, old, new, states, numbers, picture, rows);
+    let a = power_on(config, old, new, states, picture, rows);
     let p = a.chip;
     let refused = a.refused;
     let chip = hand_over(p);
@@ -128,16 +127,15 @@ pub extern "C" fn jollanqe_command(
     old: &mut [u8],
     new: &mut [u8],
     states: &mut [i64],
-    numbers: &mut [u8],
     picture: &mut [u8],
     rows: &mut [u64],
 ) -> Given
-    ensures { λ r. ⌜ rule.Passes (ask.command at command) chip r old new states numbers picture rows ⌝ }
+    ensures { λ r. ⌜ rule.Passes (ask.command at command) chip r old new states picture rows ⌝ }
 {
     let p = taken(chip);
     no_read(
         chip,
-        write_command(p, at, command, old, new, states, numbers, picture, rows),
+        write_command(p, at, command, old, new, states, picture, rows),
     )
 }
 
@@ -150,16 +148,15 @@ pub extern "C" fn jollanqe_data(
     old: &mut [u8],
     new: &mut [u8],
     states: &mut [i64],
-    numbers: &mut [u8],
     picture: &mut [u8],
     rows: &mut [u64],
 ) -> Given
-    ensures { λ r. ⌜ rule.Passes (ask.datum at byte) chip r old new states numbers picture rows ⌝ }
+    ensures { λ r. ⌜ rule.Passes (ask.datum at byte) chip r old new states picture rows ⌝ }
 {
     let p = taken(chip);
     no_read(
         chip,
-        write_data(p, at, byte, old, new, states, numbers, picture, rows),
+        write_data(p, at, byte, old, new, states, picture, rows),
     )
 }
 
@@ -171,14 +168,13 @@ pub extern "C" fn jollanqe_read(
     old: &mut [u8],
     new: &mut [u8],
     states: &mut [i64],
-    numbers: &mut [u8],
     picture: &mut [u8],
     rows: &mut [u64],
 ) -> Given
-    ensures { λ r. ⌜ rule.Passes (ask.reading at) chip r old new states numbers picture rows ⌝ }
+    ensures { λ r. ⌜ rule.Passes (ask.reading at) chip r old new states picture rows ⌝ }
 {
     let p = taken(chip);
-    let a = read_data(p, at, old, new, states, numbers, picture, rows);
+    let a = read_data(p, at, old, new, states, picture, rows);
     let q = a.chip;
     let refused = a.refused;
     let byte = a.byte;
@@ -194,16 +190,15 @@ pub extern "C" fn jollanqe_reset(
     old: &mut [u8],
     new: &mut [u8],
     states: &mut [i64],
-    numbers: &mut [u8],
     picture: &mut [u8],
     rows: &mut [u64],
 ) -> Given
-    ensures { λ r. ⌜ rule.Passes (ask.reset at asserted) chip r old new states numbers picture rows ⌝ }
+    ensures { λ r. ⌜ rule.Passes (ask.reset at asserted) chip r old new states picture rows ⌝ }
 {
     let p = taken(chip);
     no_read(
         chip,
-        set_reset(p, at, asserted, old, new, states, numbers, picture, rows),
+        set_reset(p, at, asserted, old, new, states, picture, rows),
     )
 }
 
@@ -216,16 +211,15 @@ pub extern "C" fn jollanqe_vcom_rule(
     old: &mut [u8],
     new: &mut [u8],
     states: &mut [i64],
-    numbers: &mut [u8],
     picture: &mut [u8],
     rows: &mut [u64],
 ) -> Given
-    ensures { λ r. ⌜ rule.Passes (ask.vcomRule at «by_frame») chip r old new states numbers picture rows ⌝ }
+    ensures { λ r. ⌜ rule.Passes (ask.vcomRule at «by_frame») chip r old new states picture rows ⌝ }
 {
     let p = taken(chip);
     no_read(
         chip,
-        set_vcom_rule(p, at, by_frame, old, new, states, numbers, picture, rows),
+        set_vcom_rule(p, at, by_frame, old, new, states, picture, rows),
     )
 }
 
@@ -237,17 +231,13 @@ pub extern "C" fn jollanqe_advance(
     old: &mut [u8],
     new: &mut [u8],
     states: &mut [i64],
-    numbers: &mut [u8],
     picture: &mut [u8],
     rows: &mut [u64],
 ) -> Given
-    ensures { λ r. ⌜ rule.Passes (ask.advance at) chip r old new states numbers picture rows ⌝ }
+    ensures { λ r. ⌜ rule.Passes (ask.advance at) chip r old new states picture rows ⌝ }
 {
     let p = taken(chip);
-    no_read(
-        chip,
-        advance(p, at, old, new, states, numbers, picture, rows),
-    )
+    no_read(chip, advance(p, at, old, new, states, picture, rows))
 }
 
 // Every event of a run is turned back, by 6 or by 5.
@@ -256,11 +246,10 @@ fn turns_all_back(
     old: &[u8],
     new: &[u8],
     states: &[i64],
-    numbers: &[u8],
     picture: &[u8],
     rows: &[u64],
 ) -> bool
-    ensures { λ r. ⌜ r ≡ rule.turnsAllBack p (before old new states numbers picture rows) ⌝ }
+    ensures { λ r. ⌜ r ≡ rule.turnsAllBack p (before old new states picture rows) ⌝ }
 {
     if foreign(p) {
         return true;
@@ -271,7 +260,6 @@ fn turns_all_back(
         old.len(),
         new.len(),
         states.len(),
-        numbers.len(),
         picture.len(),
         rows.len(),
     )
@@ -286,19 +274,18 @@ pub extern "C" fn jollanqe_run(
     old: &mut [u8],
     new: &mut [u8],
     states: &mut [i64],
-    numbers: &mut [u8],
     picture: &mut [u8],
     rows: &mut [u64],
 ) -> Given
-    ensures { λ r. ⌜ r ≡ rule.ranGiven (now (events .entry)) chip (before old new states numbers picture rows) ⌝ }
-    ensures { λ r. ⌜ after old new states numbers picture rows
-        ≡ runs.ran (now (events .entry)) (world (recordTaken chip) (before old new states numbers picture rows)) .lent ⌝ }
+    ensures { λ r. ⌜ r ≡ rule.ranGiven (now (events .entry)) chip (before old new states picture rows) ⌝ }
+    ensures { λ r. ⌜ after old new states picture rows
+        ≡ runs.ran (now (events .entry)) (world (recordTaken chip) (before old new states picture rows)) .lent ⌝ }
     ensures { λ r. ⌜ now (answers .exit) ≡ runs.answers (now (events .entry)) (now (answers .entry))
-        (world (recordTaken chip) (before old new states numbers picture rows)) ⌝ }
+        (world (recordTaken chip) (before old new states picture rows)) ⌝ }
 {
     let p = taken(chip);
-    let kept = turns_all_back(p, old, new, states, numbers, picture, rows);
-    let ran = run(p, events, answers, old, new, states, numbers, picture, rows);
+    let kept = turns_all_back(p, old, new, states, picture, rows);
+    let ran = run(p, events, answers, old, new, states, picture, rows);
     let refused = ran.refused;
     let no = refused.number();
     if kept {

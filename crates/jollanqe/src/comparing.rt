@@ -22,7 +22,6 @@ fn play_in(
     old: &mut [u8],
     new: &mut [u8],
     states: &mut [i64],
-    numbers: &mut [u8],
     picture: &mut [u8],
     rows: &mut [u64],
 ) -> Log {
@@ -35,7 +34,6 @@ fn play_in(
         old,
         new,
         states,
-        numbers,
         picture,
         rows,
     );
@@ -49,7 +47,6 @@ fn play(
     old: &mut [u8],
     new: &mut [u8],
     states: &mut [i64],
-    numbers: &mut [u8],
     picture: &mut [u8],
     rows: &mut [u64],
 ) -> usize {
@@ -57,18 +54,8 @@ fn play(
     let config = c.config;
     let pixels = capture::pixels(config);
     let n = room(pixels, states.len());
-    let k = room(pixels, numbers.len());
     let q = room(pixels, picture.len());
-    let log = play_in(
-        file,
-        c,
-        old,
-        new,
-        &mut states[..n],
-        &mut numbers[..k],
-        &mut picture[..q],
-        rows,
-    );
+    let log = play_in(file, c, old, new, &mut states[..n], &mut picture[..q], rows);
     ROW * log.stored as usize
 }
 
@@ -236,13 +223,12 @@ fn with_second(
     old: &mut [u8],
     new: &mut [u8],
     states: &mut [i64],
-    numbers: &mut [u8],
     picture_a: &[u8],
     picture_b: &mut [u8],
     rows_a: &[u64],
     rows_b: &mut [u64],
 ) {
-    let stored_b = play(file_b, old, new, states, numbers, picture_b, rows_b);
+    let stored_b = play(file_b, old, new, states, picture_b, rows_b);
     write(
         out,
         file_a,
@@ -254,8 +240,7 @@ fn with_second(
     );
 }
 
-// Two captures that passed their tests. The planes, states and table numbers serve both, one after
-// the other.
+// Two captures that passed their tests. The planes and states serve both, one after the other.
 fn perform(
     out: &[u8],
     file_a: &[u8],
@@ -263,13 +248,12 @@ fn perform(
     old: &mut [u8],
     new: &mut [u8],
     states: &mut [i64],
-    numbers: &mut [u8],
     picture_a: &mut [u8],
     picture_b: &mut [u8],
     rows_a: &mut [u64],
     rows_b: &mut [u64],
 ) {
-    let stored_a = play(file_a, old, new, states, numbers, picture_a, rows_a);
+    let stored_a = play(file_a, old, new, states, picture_a, rows_a);
     with_second(
         out,
         file_a,
@@ -278,7 +262,6 @@ fn perform(
         old,
         new,
         states,
-        numbers,
         picture_a,
         picture_b,
         rows_a,
@@ -298,7 +281,6 @@ fn judge(
     old: &mut [u8],
     new: &mut [u8],
     states: &mut [i64],
-    numbers: &mut [u8],
     picture_a: &mut [u8],
     picture_b: &mut [u8],
     rows_a: &mut [u64],
@@ -319,7 +301,6 @@ fn judge(
         old,
         new,
         states,
-        numbers,
         picture_a,
         picture_b,
         rows_a,
@@ -338,7 +319,6 @@ fn read_second(
     old: &mut [u8],
     new: &mut [u8],
     states: &mut [i64],
-    numbers: &mut [u8],
     picture_a: &mut [u8],
     picture_b: &mut [u8],
     rows_a: &mut [u64],
@@ -358,7 +338,6 @@ fn read_second(
                 old,
                 new,
                 states,
-                numbers,
                 picture_a,
                 picture_b,
                 rows_a,
@@ -379,7 +358,6 @@ pub(crate) fn run(
     old: &mut [u8],
     new: &mut [u8],
     states: &mut [i64],
-    numbers: &mut [u8],
     picture_a: &mut [u8],
     picture_b: &mut [u8],
     rows_a: &mut [u64],
@@ -398,7 +376,6 @@ pub(crate) fn run(
                 old,
                 new,
                 states,
-                numbers,
                 picture_a,
                 picture_b,
                 rows_a,

@@ -173,7 +173,6 @@ fn one_file(
     old: &mut [u8],
     new: &mut [u8],
     states: &mut [i64],
-    numbers: &mut [u8],
     picture: &mut [u8],
     rows: &mut [u64],
 ) {
@@ -181,18 +180,7 @@ fn one_file(
         help::wants_file(word(line, 0));
         return;
     }
-    with_file(
-        task,
-        line,
-        in_batch,
-        file,
-        old,
-        new,
-        states,
-        numbers,
-        picture,
-        rows,
-    );
+    with_file(task, line, in_batch, file, old, new, states, picture, rows);
 }
 
 // The picture of one file, perhaps at a top.
@@ -204,7 +192,6 @@ fn one_picture(
     old: &mut [u8],
     new: &mut [u8],
     states: &mut [i64],
-    numbers: &mut [u8],
     picture: &mut [u8],
     rows: &mut [u64],
 ) {
@@ -218,7 +205,6 @@ fn one_picture(
             old,
             new,
             states,
-            numbers,
             picture,
             rows,
         ),
@@ -237,7 +223,6 @@ fn with_file(
     old: &mut [u8],
     new: &mut [u8],
     states: &mut [i64],
-    numbers: &mut [u8],
     picture: &mut [u8],
     rows: &mut [u64],
 ) {
@@ -258,7 +243,6 @@ fn with_file(
         old,
         new,
         states,
-        numbers,
         picture,
         rows,
     );
@@ -272,7 +256,6 @@ fn into_folder(
     old: &mut [u8],
     new: &mut [u8],
     states: &mut [i64],
-    numbers: &mut [u8],
     picture: &mut [u8],
     rows: &mut [u64],
 ) {
@@ -300,7 +283,6 @@ fn into_folder(
         old,
         new,
         states,
-        numbers,
         picture,
         rows,
     );
@@ -344,7 +326,6 @@ fn two_files(
     old: &mut [u8],
     new: &mut [u8],
     states: &mut [i64],
-    numbers: &mut [u8],
     picture: &mut [u8],
     other_picture: &mut [u8],
     rows: &mut [u64],
@@ -369,7 +350,6 @@ fn two_files(
         old,
         new,
         states,
-        numbers,
         picture,
         other_picture,
         rows,
@@ -410,7 +390,6 @@ fn dump(
     old: &mut [u8],
     new: &mut [u8],
     states: &mut [i64],
-    numbers: &mut [u8],
     picture: &mut [u8],
     rows: &mut [u64],
 ) {
@@ -433,7 +412,6 @@ fn dump(
                 old,
                 new,
                 states,
-                numbers,
                 picture,
                 rows,
             );
@@ -462,7 +440,6 @@ pub(crate) fn run(
     old: &mut [u8],
     new: &mut [u8],
     states: &mut [i64],
-    numbers: &mut [u8],
     picture: &mut [u8],
     other_picture: &mut [u8],
     rows: &mut [u64],
@@ -474,18 +451,7 @@ pub(crate) fn run(
     let w = sort(word(line, 0));
     match w {
         Word::Help => say_help(line),
-        Word::Task(task) => one_file(
-            task,
-            line,
-            in_batch,
-            file,
-            old,
-            new,
-            states,
-            numbers,
-            picture,
-            rows,
-        ),
+        Word::Task(task) => one_file(task, line, in_batch, file, old, new, states, picture, rows),
         Word::Picture(form) => one_picture(
             form,
             line,
@@ -494,21 +460,10 @@ pub(crate) fn run(
             old,
             new,
             states,
-            numbers,
             picture,
             rows,
         ),
-        Word::Pictures => into_folder(
-            line,
-            in_batch,
-            file,
-            old,
-            new,
-            states,
-            numbers,
-            picture,
-            rows,
-        ),
+        Word::Pictures => into_folder(line, in_batch, file, old, new, states, picture, rows),
         Word::Compare => two_files(
             line,
             in_batch,
@@ -517,24 +472,12 @@ pub(crate) fn run(
             old,
             new,
             states,
-            numbers,
             picture,
             other_picture,
             rows,
             other_rows,
         ),
-        Word::Dump => dump(
-            line,
-            in_batch,
-            file,
-            other,
-            old,
-            new,
-            states,
-            numbers,
-            picture,
-            rows,
-        ),
+        Word::Dump => dump(line, in_batch, file, other, old, new, states, picture, rows),
         Word::Unknown => help::no_word(word(line, 0)),
     }
 }

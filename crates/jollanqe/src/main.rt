@@ -51,7 +51,6 @@ fn next_job(
     old: &mut [u8],
     new: &mut [u8],
     states: &mut [i64],
-    numbers: &mut [u8],
     picture: &mut [u8],
     other_picture: &mut [u8],
     rows: &mut [u64],
@@ -68,7 +67,6 @@ fn next_job(
                 old,
                 new,
                 states,
-                numbers,
                 picture,
                 other_picture,
                 rows,
@@ -96,7 +94,6 @@ fn batch(
     old: &mut [u8],
     new: &mut [u8],
     states: &mut [i64],
-    numbers: &mut [u8],
     picture: &mut [u8],
     other_picture: &mut [u8],
     rows: &mut [u64],
@@ -111,7 +108,6 @@ fn batch(
             old,
             new,
             states,
-            numbers,
             picture,
             other_picture,
             rows,
@@ -185,7 +181,6 @@ fn main() {
     let mut old = [0u8; 60000];
     let mut new = [0u8; 60000];
     let mut states = [0i64; PIXELS];
-    let mut numbers = [0u8; PIXELS];
     let mut picture = [0u8; PIXELS];
     let mut other_picture = [0u8; PIXELS];
     let mut rows = [0u64; ROWS];
@@ -199,7 +194,6 @@ fn main() {
             &mut old,
             &mut new,
             &mut states,
-            &mut numbers,
             &mut picture,
             &mut other_picture,
             &mut rows,
@@ -216,7 +210,6 @@ fn main() {
         &mut old,
         &mut new,
         &mut states,
-        &mut numbers,
         &mut picture,
         &mut other_picture,
         &mut rows,

@@ -96,7 +96,6 @@ fn meet(
     old: &mut [u8],
     new: &mut [u8],
     states: &mut [i64],
-    numbers: &mut [u8],
     picture: &mut [u8],
     rows: &mut [u64],
 ) -> Met {
@@ -107,7 +106,7 @@ fn meet(
             ended: first,
         };
     }
-    let s = step(p, event, old, new, states, numbers, picture, rows);
+    let s = step(p, event, old, new, states, picture, rows);
     let chip = s.chip;
     let ended = after(watch, chip, p.image.generation, dir, fd, picture);
     Met { chip, ended }
@@ -122,7 +121,6 @@ fn meet_all(
     old: &mut [u8],
     new: &mut [u8],
     states: &mut [i64],
-    numbers: &mut [u8],
     picture: &mut [u8],
     rows: &mut [u64],
 ) -> Ended {
@@ -131,19 +129,7 @@ fn meet_all(
     let mut i: usize = 0;
     while i < count {
         let event = event_at(events, i);
-        let m = meet(
-            watch,
-            chip,
-            event,
-            dir,
-            fd,
-            old,
-            new,
-            states,
-            numbers,
-            picture,
-            rows,
-        );
+        let m = meet(watch, chip, event, dir, fd, old, new, states, picture, rows);
         let ended = m.ended;
         if !is_whole(ended) {
             return ended;
@@ -164,12 +150,11 @@ fn replay_in(
     old: &mut [u8],
     new: &mut [u8],
     states: &mut [i64],
-    numbers: &mut [u8],
     picture: &mut [u8],
     rows: &mut [u64],
 ) -> Ended {
     let config = c.config;
-    let made = power_on(config, old, new, states, numbers, picture, rows);
+    let made = power_on(config, old, new, states, picture, rows);
     let chip = made.chip;
     meet_all(
         watch,
@@ -180,7 +165,6 @@ fn replay_in(
         old,
         new,
         states,
-        numbers,
         picture,
         rows,
     )
@@ -202,7 +186,6 @@ pub(crate) fn replay(
     old: &mut [u8],
     new: &mut [u8],
     states: &mut [i64],
-    numbers: &mut [u8],
     picture: &mut [u8],
     rows: &mut [u64],
 ) -> Ended {
@@ -210,7 +193,6 @@ pub(crate) fn replay(
     let config = c.config;
     let pixels = capture::pixels(config);
     let n = room(pixels, states.len());
-    let k = room(pixels, numbers.len());
     let q = room(pixels, picture.len());
     replay_in(
         watch,
@@ -221,7 +203,6 @@ pub(crate) fn replay(
         old,
         new,
         &mut states[..n],
-        &mut numbers[..k],
         &mut picture[..q],
         rows,
     )

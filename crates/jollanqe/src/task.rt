@@ -45,26 +45,14 @@ fn show_by(
     old: &mut [u8],
     new: &mut [u8],
     states: &mut [i64],
-    numbers: &mut [u8],
     picture: &mut [u8],
     rows: &mut [u64],
 ) -> bool {
     let form = tone.form;
     if tone.wide {
-        return shade(
-            capture,
-            form,
-            tone.top,
-            fd,
-            old,
-            new,
-            states,
-            numbers,
-            picture,
-            rows,
-        );
+        return shade(capture, form, tone.top, fd, old, new, states, picture, rows);
     }
-    show(capture, form, fd, old, new, states, numbers, picture, rows)
+    show(capture, form, fd, old, new, states, picture, rows)
 }
 
 // A capture that is not turned back, to a descriptor; the answer is whether that could be written.
@@ -76,12 +64,11 @@ fn write(
     old: &mut [u8],
     new: &mut [u8],
     states: &mut [i64],
-    numbers: &mut [u8],
     picture: &mut [u8],
     rows: &mut [u64],
 ) -> bool {
     match task {
-        Task::Show(tone) => show_by(tone, capture, fd, old, new, states, numbers, picture, rows),
+        Task::Show(tone) => show_by(tone, capture, fd, old, new, states, picture, rows),
         Task::Watch(watch) => is_written(replay::replay(
             watch,
             capture,
@@ -90,7 +77,6 @@ fn write(
             old,
             new,
             states,
-            numbers,
             picture,
             rows,
         )),
@@ -107,7 +93,6 @@ fn perform(
     old: &mut [u8],
     new: &mut [u8],
     states: &mut [i64],
-    numbers: &mut [u8],
     picture: &mut [u8],
     rows: &mut [u64],
 ) {
@@ -120,18 +105,7 @@ fn perform(
     if fd < 0 {
         return;
     }
-    let written = write(
-        task,
-        capture,
-        dir,
-        fd,
-        old,
-        new,
-        states,
-        numbers,
-        picture,
-        rows,
-    );
+    let written = write(task, capture, dir, fd, old, new, states, picture, rows);
     files::close(out, fd, written);
 }
 
@@ -146,24 +120,12 @@ fn judge(
     old: &mut [u8],
     new: &mut [u8],
     states: &mut [i64],
-    numbers: &mut [u8],
     picture: &mut [u8],
     rows: &mut [u64],
 ) {
     let refused = tested(Form::Lines, capture);
     if refused.none() {
-        perform(
-            task,
-            capture,
-            dir,
-            out,
-            old,
-            new,
-            states,
-            numbers,
-            picture,
-            rows,
-        );
+        perform(task, capture, dir, out, old, new, states, picture, rows);
         return;
     }
     if !show(
@@ -173,7 +135,6 @@ fn judge(
         old,
         new,
         states,
-        numbers,
         picture,
         rows,
     ) {
@@ -192,7 +153,6 @@ pub(crate) fn run(
     old: &mut [u8],
     new: &mut [u8],
     states: &mut [i64],
-    numbers: &mut [u8],
     picture: &mut [u8],
     rows: &mut [u64],
 ) {
@@ -209,7 +169,6 @@ pub(crate) fn run(
                 old,
                 new,
                 states,
-                numbers,
                 picture,
                 rows,
             );

@@ -42,14 +42,12 @@ fn put_row(rows: &mut [u64], at: usize, numbers: [u64; ROW])
     put(rows, at + 4, numbers[4]);
 }
 
-// One diagnostic more: its five numbers as the next row, or one more that was not stored.
-pub fn report(log: Log, rows: &mut [u64], at: u64, kind: DiagnosticKind) -> Log
-    ensures { λ r. ⌜ (r ≡ reported log) × (now (rows .exit) ≡ rowsAfter log at kind (now (rows .entry))) ⌝ }
+// The log after one diagnostic more: one more row, or one more that was not stored.
+pub fn counted(log: Log) -> Log
+    ensures { λ r. ⌜ r ≡ reported log ⌝ }
 {
     let stored = log.stored as usize;
     if stored < MAX_DIAGNOSTICS {
-        let numbers = row(at, kind);
-        put_row(rows, ROW * stored, numbers);
         return Log {
             stored: log.stored + 1,
             dropped: log.dropped,
@@ -58,6 +56,17 @@ pub fn report(log: Log, rows: &mut [u64], at: u64, kind: DiagnosticKind) -> Log
     Log {
         stored: log.stored,
         dropped: saturating_add(log.dropped, 1),
+    }
+}
+
+// Its five numbers as the next row, if there is room.
+pub fn store(log: Log, rows: &mut [u64], at: u64, kind: DiagnosticKind)
+    ensures { λ _. ⌜ now (rows .exit) ≡ rowsAfter log at kind (now (rows .entry)) ⌝ }
+{
+    let row_at = log.stored as usize;
+    if row_at < MAX_DIAGNOSTICS {
+        let numbers = row(at, kind);
+        put_row(rows, ROW * row_at, numbers);
     }
 }
 

@@ -38,7 +38,6 @@ pub record Filled (c : Uc8253Config) (b : Buffers) (chip : Uc8253) (a : Buffers)
   pub old-is : a .old ≡ replicate (length (b .old)) 0
   pub new-is : a .new ≡ replicate (length (b .new)) 0
   pub states-is : a .states ≡ replicate (length (b .states)) (stateHeld (levelOf (c .optics .«initial_gray») (c .optics .«full_swing»)))
-  pub numbers-is : a .numbers ≡ replicate (length (b .numbers)) 0
   pub picture-is : a .picture ≡ replicate (length (b .picture)) (c .optics .«initial_gray»)
   pub rows-is : a .rows ≡ replicate (length (b .rows)) 0
 
@@ -48,9 +47,9 @@ at-level n e f = rw (← f) e
 long : {A : Type 0} {l : List A} {n k : ℕ} (x : A) → l ≡ replicate n x → n ≡ k → l ≡ replicate k x
 long x e f = rw (← f) e
 
-same-buffers : {o o₂ n n₂ m m₂ p p₂ r r₂ : List ℕ} {s s₂ : List ℤ} → o ≡ o₂ → n ≡ n₂ → s ≡ s₂ → m ≡ m₂ → p ≡ p₂ → r ≡ r₂
-    → buffers o n s m p r ≡ buffers o₂ n₂ s₂ m₂ p₂ r₂
-same-buffers o n s m p r = rw (o, n, s, m, p, r)
+same-buffers : {o o₂ n n₂ p p₂ r r₂ : List ℕ} {s s₂ : List ℤ} → o ≡ o₂ → n ≡ n₂ → s ≡ s₂ → p ≡ p₂ → r ≡ r₂
+    → buffers o n s p r ≡ buffers o₂ n₂ s₂ p₂ r₂
+same-buffers o n s p r = rw (o, n, s, p, r)
 
 first-buffers : (c : Uc8253Config) (b : Buffers) (chip : Uc8253) (a : Buffers) → c .optics .«initial_gray» ≤ 255 → makingRefused c b ≡ 0
     → Filled c b chip a → a ≡ firstBuffers c
@@ -65,7 +64,6 @@ first-buffers c b chip a g e f =
     (long 0 (f .old-is) (l .old))
     (long 0 (f .new-is) (l .new))
     (long (pos x) (f .states-is ∙ ap (replicate (length (b .states))) h) (l .states))
-    (long 0 (f .numbers-is) (l .numbers))
     (long (c .optics .«initial_gray») (f .picture-is) (l .picture))
     (long 0 (f .rows-is) (l .rows))
 

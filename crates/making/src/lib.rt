@@ -165,11 +165,10 @@ fn making_refused(
     old: &[u8],
     new: &[u8],
     states: &[i64],
-    numbers: &[u8],
     picture: &[u8],
     rows: &[u64],
 ) -> Refusal
-    ensures { λ r. ⌜ refusalNumber r ≡ tests.makingRefused config (before old new states numbers picture rows) ⌝ }
+    ensures { λ r. ⌜ refusalNumber r ≡ tests.makingRefused config (before old new states picture rows) ⌝ }
 {
     let refused = config.validate();
     if refused.none() {
@@ -178,7 +177,6 @@ fn making_refused(
             old.len(),
             new.len(),
             states.len(),
-            numbers.len(),
             picture.len(),
             rows.len(),
         ) {
@@ -195,20 +193,18 @@ pub fn power_on(
     old: &mut [u8],
     new: &mut [u8],
     states: &mut [i64],
-    numbers: &mut [u8],
     picture: &mut [u8],
     rows: &mut [u64],
 ) -> Answer
-    ensures { λ r. ⌜ Makes (calls.made config) (tests.makingRefused config) (r .chip) (r .refused) old new states numbers picture rows ⌝ }
+    ensures { λ r. ⌜ Makes (calls.made config) (tests.makingRefused config) (r .chip) (r .refused) old new states picture rows ⌝ }
 {
-    let refused = making_refused(config, old, new, states, numbers, picture, rows);
+    let refused = making_refused(config, old, new, states, picture, rows);
     if refused.none() {
         let optics = config.optics;
         let gray = optics.initial_gray;
         fill_bytes(old, 0);
         fill_bytes(new, 0);
         fill_states(states, level(gray, optics.full_swing));
-        fill_bytes(numbers, 0);
         fill_bytes(picture, gray);
         fill_words(rows);
         let variant = config.variant;

@@ -19,9 +19,6 @@ filled-more f p n l = rw (add-one n)
 pub filled-none : (f : ℕ → ℕ) (p n : ℕ) (l : List ℕ) → n ≤ 0 → filled f p n l ≡ l
 filled-none f p n l h = ap (λ (k : ℕ). filled f p k l) {x = n} {y = 0} (omega arith)
 
-pub rows-more : (f : ℕ → ℕ → ℕ) (n y : ℕ) (l : List ℕ) → filled (λ x. f x y) (y * n) n (rowsFilled f n y l) ≡ rowsFilled f n (y + 1) l
-rows-more f n y l = rw (add-one y)
-
 -- where a row begins, row and width of 16 bits each
 pub row-place : (y w : ℕ) → y < 65_536 → w < 65_536 → y * w < 2 ^ 32
 row-place y w h k = omega (arith, mul-le-mul {n₁ = y} {m₁ = w} {n₂ = 65_535} {m₂ = 65_535} (omega arith) (omega arith))

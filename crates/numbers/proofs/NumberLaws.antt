@@ -92,17 +92,6 @@ number-by-row p old new y x =
     by-row (p .active) (p .area) c (shownAt (p .rows) (p .active .y0) (p .active .y1) y)
     (λ r. transitionOf (eqb (bitAt old c r) (p .white)) (eqb (bitAt new c r) (p .white)))
 
--- ---- looking for 255
-module _ (l : List ℕ) (i : ℕ) where
-  pub undriven-next : i < length l → (any : Bool)
-      → (any || eqb (getD l i 0) 255) || someUndriven (drop (i + 1) l) ≡ any || someUndriven (drop i l)
-  undriven-next h true = refl
-  undriven-next h false = rw (drop-cons l i 0 h, add-one i)
-
-  pub undriven-none : length l ≤ i → (any : Bool) → any || someUndriven (drop i l) ≡ any
-  undriven-none h true = refl
-  undriven-none h false = rw (drop-of-length-le l h)
-
 -- ---- columns in their order, outside, and of whole bytes
 no-test : {X : Type 0} → _≡_ {A = Bool} false true → X
 no-test e = absurd (subst (λ (b : Bool). T b) (sym e) tt)

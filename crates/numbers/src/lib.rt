@@ -5,9 +5,9 @@ ghost use mathlib.Core.Bool.{not};
 ghost use Prim.Native.Nat.{ℕ, _<_, _≤_, _+_, _-_, _*_, _^_, min, max};
 ghost use lib.ListN.{length};
 ghost use Rattle.base.specs.Pick.{pick};
-ghost use Rattle.numbers.specs.Filled.{filled, rowsFilled};
+ghost use Rattle.numbers.specs.Filled.{filled};
 ghost use Rattle.numbers.specs.InnerRow.{noRow, rowAt, numberIn, numberAt, inOrder, Outside, Whole, Some};
-ghost use Rattle.numbers.specs.Number.{mappingOf, reversedOf, shownAt, transitionOf, numberOf, someUndriven};
+ghost use Rattle.numbers.specs.Number.{mappingOf, reversedOf, shownAt, transitionOf, numberOf};
 ghost use Rattle.numbers.specs.Number.{someBelow, betweenBoth, outsideAt, outsideSome};
 
 mod eights;
@@ -415,31 +415,6 @@ pub fn row_of_numbers(row: &mut [u8], old: &[u8], new: &[u8], p: Mapping, y: u16
         ≡ filled (λ x. numberOf p (now (old .entry)) (now (new .entry)) x y) 0 (p .columns .count) (now (row .entry)) ⌝ }
 {
     row_numbers(row, 0, old, new, p, y);
-}
-
-// The number of each pixel, row by row of the panel.
-pub fn numbers(numbers: &mut [u8], old: &[u8], new: &[u8], p: Mapping)
-    ensures { λ r. ⌜ now (numbers .exit)
-        ≡ rowsFilled (numberOf p (now (old .entry)) (now (new .entry))) (p .columns .count) (p .rows .count) (now (numbers .entry)) ⌝ }
-{
-    let width = p.columns.count as usize;
-    let height = p.rows.count as usize;
-    for y in 0usize..height {
-        row_numbers(numbers, y * width, old, new, p, y as u16);
-    }
-}
-
-// Whether some pixel is left alone.
-pub fn some_undriven(numbers: &[u8]) -> bool
-    ensures { λ r. ⌜ r ≡ someUndriven (now (numbers .entry)) ⌝ }
-{
-    let mut any = false;
-    let mut i = 0;
-    while i < numbers.len() {
-        any = any | (numbers[i] == UNDRIVEN);
-        i += 1;
-    }
-    any
 }
 
 // Whether c lies outside of first ..= last or of from ..= to.

@@ -60,6 +60,3 @@ no-number n p q r s t = rw (ne-eqb n 1 p, ne-eqb n 2 q, ne-eqb n 3 r, ne-eqb n 4
 
 pub numbers-known : (l : List ℕ) → everyNumber l ≡ true → (i : ℕ) → i < length l → isNumber (getD l i 255) ≡ true
 numbers-known l e i h = every-at isNumber l e i h 255
-
-pub known-numbers : (l : List ℕ) → ((i : ℕ) → i < length l → isNumber (getD l i 255) ≡ true) → everyNumber l ≡ true
-known-numbers l f = every-from isNumber l 255 f

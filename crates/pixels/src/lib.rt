@@ -1,5 +1,5 @@
-// The glass over lent buffers (mod.rs: new, finish): the states, the table numbers and the picture,
-// an entry for each pixel.
+// The glass over lent buffers (mod.rs: new, finish): the states and the picture, an entry for each
+// pixel.
 ghost use mathlib.Core.Path.{_≡_};
 ghost use mathlib.Core.Bool.{true};
 ghost use Prim.Native.Nat.{_*_, _≤_, min};
@@ -8,16 +8,12 @@ ghost use lib.ListN.{length, replicate};
 ghost use Rattle.base.specs.Integer.{up};
 ghost use Rattle.base.specs.Pick.{pick};
 ghost use Rattle.glass.specs.Gray.{topOf, grayAt, grayOf};
-ghost use Rattle.pixels.specs.States.{most, stateHeld, isState, everyState, isNumber, everyNumber};
+ghost use Rattle.pixels.specs.States.{most, stateHeld, isState, everyState};
 ghost use Rattle.pixels.specs.Drive.{driven};
 ghost use Rattle.pixels.specs.InnerReady.{readyOf, Bounded, movedReady, slotOf};
 ghost use Rattle.pixels.specs.Draw.{drawnAt, drawn};
 ghost use Rattle.pixels.specs.InnerGuess.{thresholdOf, Thresholds, white, Scaled, Prepared};
 use base::KK;
-use base::KW;
-use base::UNDRIVEN;
-use base::WK;
-use base::WW;
 use base::greatest;
 use base::least;
 use base::saturating_add;
@@ -83,7 +79,7 @@ pub fn fill_states(states: &mut [i64], state: u64)
     }
 }
 
-// Every byte becomes one: the picture the initial grey, planes and table numbers 0.
+// Every byte becomes one: the picture the initial grey, planes 0.
 pub fn fill_bytes(bytes: &mut [u8], b: u8)
     ensures { λ _. ⌜ now (bytes .exit) ≡ replicate (length (now (bytes .entry))) b ⌝ }
 {
@@ -389,29 +385,6 @@ pub fn all_states(states: &[i64], swing: u64) -> bool
     while i < states.len() {
         let z = states[i];
         all = all & is_state(z, swing);
-        i += 1;
-    }
-    all
-}
-
-// Whether a byte is a table number or stands for none.
-fn is_number(n: u8) -> bool
-    ensures { λ r. ⌜ r ≡ isNumber n ⌝ }
-{
-    match n {
-        WW | KW | WK | KK | UNDRIVEN => true,
-        _ => false,
-    }
-}
-
-// Whether every number is one of 1, 2, 3, 4, 255.
-pub fn all_numbers(numbers: &[u8]) -> bool
-    ensures { λ r. ⌜ r ≡ everyNumber (now (numbers .entry)) ⌝ }
-{
-    let mut all = true;
-    let mut i = 0;
-    while i < numbers.len() {
-        all = all & is_number(numbers[i]);
         i += 1;
     }
     all

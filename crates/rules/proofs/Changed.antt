@@ -1,17 +1,8 @@
--- A world whose record one more call has changed, and a world by the case that an enum is in.
+-- What is shown of the case that an enum is in, and the command under way set.
 use mathlib.Core.Path.{_≡_, sym, ap, _∙_}
 use Rattle.controller.specs.declared.Active.{Active}
 use Rattle.controller.specs.declared.Uc8253.{Uc8253}
-use Rattle.controller.specs.World.{World, Buffers, world, onChip}
 use Rattle.controller.specs.DataByte.{under}
-
--- the record p changed by f
-pub changed : {r : Uc8253} {l : Buffers} (f : Uc8253 → Uc8253) (p : Uc8253) → r ≡ f p → world r l ≡ onChip f (world p l)
-changed {r} {l} f p e = ap (λ (z : Uc8253). world z l) e
-
--- the record changed by f, after a call that gave the world w
-pub then : {r q : Uc8253} {l : Buffers} {w : World} (f : Uc8253 → Uc8253) → r ≡ f q → world q l ≡ w → world r l ≡ onChip f w
-then {r} {q} {l} {w} f e h = ap (λ (z : Uc8253). world z l) e ∙ ap (λ (v : World). onChip f v) h
 
 -- the case that an enum is in
 pub in-case : {X A : Type 0} {x y : X} {a : A} (g : X → A) → x ≡ y → a ≡ g y → a ≡ g x

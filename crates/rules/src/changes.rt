@@ -1,46 +1,69 @@
 // The small changes of the record that every call makes: a diagnostic, the command under way, an
 // operation begun or over.
 ghost use mathlib.Core.Path.{_≡_};
-ghost use Rattle.controller.specs.Setters.{withCurrent, withOperation, withNow};
-ghost use Rattle.controller.specs.Tell.{tell as tellOf, told as toldOf};
+ghost use Rattle.controller.specs.Setters.{withCurrent, withOperation, withLog, withNow};
+ghost use Rattle.controller.specs.Tell.{logNoted, rowNoted, logTold, rowsTold};
 ghost use Rattle.controller.specs.Arrives as arrives;
 ghost use Rattle.controller.specs.Refresh as refresh;
-ghost use Rattle.controller.specs.Command.{closed};
-ghost use Rattle.controller.specs.Lent.{TurnsRows};
+ghost use Rattle.controller.specs.Glass.{drivenAt};
 ghost use Rattle.controller.specs.Counting.{own};
-use crate::notes::closing;
+use crate::refused::ends_refresh;
+use base::greatest;
 use base::saturating_add;
 use base::saturating_sub;
 use clock::cycles;
 use clock::nanoseconds;
 use controller::Current;
+use controller::Drive;
 use controller::Note;
+use controller::Notes;
 use controller::Operation;
 use controller::Stage;
 use controller::Uc8253;
 use controller::Work;
-use diagnostic::DiagnosticKind;
-use log::report;
+use log::Log;
+use log::counted;
+use log::store;
 use waveform::whole_frames;
 
-// A diagnostic, dated by the clock.
-pub fn tell(p: Uc8253, rows: &mut [u64], kind: DiagnosticKind) -> Uc8253
-    ensures { λ r. ⌜ TurnsRows (tellOf kind) p r rows ⌝ }
+fn log_noted(log: Log, note: Note) -> Log
+    ensures { λ r. ⌜ r ≡ logNoted note log ⌝ }
+{
+    match note {
+        Note::Quiet => log,
+        Note::Told(_) => counted(log),
+    }
+}
+
+fn row_noted(log: Log, clock: u64, note: Note, rows: &mut [u64])
+    ensures { λ _. ⌜ now (rows .exit) ≡ rowNoted note clock log (now (rows .entry)) ⌝ }
+{
+    match note {
+        Note::Quiet => {}
+        Note::Told(kind) => store(log, rows, clock, kind),
+    }
+}
+
+// The log counts what a call tells.
+pub fn logged(p: Uc8253, notes: Notes) -> Uc8253
+    ensures { λ r. ⌜ r ≡ withLog (logTold notes (p .log)) p ⌝ }
 {
     let log = p.log;
+    let first = notes.first;
+    let second = notes.second;
     let mut q = p;
-    q.log = report(log, rows, p.now, kind);
+    q.log = log_noted(log_noted(log, first), second);
     q
 }
 
-// A diagnostic, if there is one.
-pub fn told(p: Uc8253, rows: &mut [u64], note: Note) -> Uc8253
-    ensures { λ r. ⌜ TurnsRows (toldOf note) p r rows ⌝ }
+// The rows store what a call tells, dated by the clock.
+pub fn store_notes(log: Log, clock: u64, notes: Notes, rows: &mut [u64])
+    ensures { λ _. ⌜ now (rows .exit) ≡ rowsTold notes clock log (now (rows .entry)) ⌝ }
 {
-    match note {
-        Note::Quiet => p,
-        Note::Told(kind) => tell(p, rows, kind),
-    }
+    let first = notes.first;
+    let second = notes.second;
+    row_noted(log, clock, first, rows);
+    row_noted(log_noted(log, first), clock, second, rows);
 }
 
 pub fn with_current(p: Uc8253, current: Current) -> Uc8253
@@ -82,7 +105,7 @@ pub fn start(p: Uc8253, work: Work, ns: u64) -> Uc8253
 
 // The whole frames that a refresh has run once the clock is at a time: those of the time since its
 // start, converted.
-pub fn elapsed(p: Uc8253, at: u64) -> u64
+fn elapsed(p: Uc8253, at: u64) -> u64
     ensures { λ r. ⌜ r ≡ refresh.elapsed own (withNow at p) ⌝ }
 {
     let run = saturating_sub(at, p.operation.started);
@@ -90,18 +113,16 @@ pub fn elapsed(p: Uc8253, at: u64) -> u64
     whole_frames(ns, p.waveform.frame_ns)
 }
 
-// The command under way ends (another one, or a reset, comes).
-pub fn close(p: Uc8253, rows: &mut [u64]) -> Uc8253
-    ensures { λ r. ⌜ TurnsRows closed p r rows ⌝ }
+// What a call at a time, which may assert reset, does to the glass.
+pub fn drive_at(p: Uc8253, at: u64, asserted: bool) -> Drive
+    ensures { λ r. ⌜ r ≡ drivenAt own asserted at p ⌝ }
 {
-    let stage = p.stage;
-    let current = stage.current;
-    match current {
-        Current::Idle => p,
-        Current::Ignoring => p,
-        Current::Active(active) => {
-            let q = told(p, rows, closing(active));
-            with_current(q, Current::Ignoring)
+    if ends_refresh(p, at, asserted) {
+        let clock = greatest(p.now, at);
+        if p.operation.until <= clock {
+            return Drive::Whole;
         }
+        return Drive::First(elapsed(p, clock));
     }
+    Drive::Nothing
 }

@@ -9,10 +9,12 @@ use command::REV;
 use command::VV;
 use command::least_count;
 use controller::Active;
+use controller::Current;
 use controller::Mode;
 use controller::Note;
 use controller::Operation;
 use controller::Power;
+use controller::Stage;
 use controller::Work;
 use diagnostic::BOOSTER;
 use diagnostic::DiagnosticKind;
@@ -27,7 +29,7 @@ const LUT_BYTES: u16 = 42;
 
 // The command under way ends: too few parameters are reported, else a LUT of another length than KW
 // mode reads, unless its extra bytes were reported already.
-pub fn closing(a: Active) -> Note
+fn closing(a: Active) -> Note
     ensures { λ r. ⌜ r ≡ rule.closingNote a ⌝ }
 {
     let kind = a.kind;
@@ -54,6 +56,18 @@ pub fn closing(a: Active) -> Note
             Note::Quiet
         }
         _ => Note::Quiet,
+    }
+}
+
+// What is told as the command under way closes.
+pub fn close_note(stage: Stage) -> Note
+    ensures { λ r. ⌜ r ≡ rule.closeNote (stage .current) ⌝ }
+{
+    let current = stage.current;
+    match current {
+        Current::Idle => Note::Quiet,
+        Current::Ignoring => Note::Quiet,
+        Current::Active(a) => closing(a),
     }
 }
 

@@ -162,11 +162,10 @@ pub fn lengths_fit(
     old: usize,
     new: usize,
     states: usize,
-    numbers: usize,
     picture: usize,
     rows: usize,
 ) -> bool
-    ensures { λ r. ⌜ r ≡ tests.lengthsFit config old new states numbers picture rows ⌝ }
+    ensures { λ r. ⌜ r ≡ tests.lengthsFit config old new states picture rows ⌝ }
 {
     let pixels = config.panel.sources as usize * config.panel.gates as usize;
     if old != PLANE {
@@ -176,9 +175,6 @@ pub fn lengths_fit(
         return false;
     }
     if states != pixels {
-        return false;
-    }
-    if numbers != pixels {
         return false;
     }
     if picture != pixels {

@@ -30,7 +30,7 @@ small w h k l = omega (arith, mul-le-mul {n₁ = w} {m₁ = h} {n₂ = 65_535} {
 room-whole : (w : World) → Sound w → room (w .chip) ≡ w .chip .config .panel .sources * w .chip .config .panel .gates
 unfolding room
 room-whole w s =
-    let a = accepted (w .chip .config) (s .config) in
+    let a = accepted (w .chip .config) (s .chip .config) in
     omega (arith, mul-le-mul {n₁ = w .chip .config .panel .sources} {m₁ = w .chip .config .panel .gates} {n₂ = 800} {m₂ = 600} (a .sources-most) (a .gates-most))
 
 pub shades-are : (f : Form) (top : ℕ) (w : World) → Sound w
@@ -64,7 +64,7 @@ entries (part l) = []
 entries (wide l) = l
 
 abbrev pub none : Buffers
-none = buffers [] [] [] [] [] []
+none = buffers [] [] [] [] []
 
 pub shades-from : (f : Form) (top : ℕ) (p : Uc8253) (states : List ℤ) {first last : List ℕ} {n : ℕ} {c : Came}
     → first ≡ replicate (room p) 0 → c ≡ cameBy n

@@ -51,14 +51,13 @@ module _ (file : List ℕ) (b : Buffers) where
     old = sym (length-replicate {A = ℕ} (length (b .old)) 0) i;
     new = sym (length-replicate {A = ℕ} (length (b .new)) 0) i;
     states = same-long (b .states) (pos 0) (panelSize file) i;
-    numbers = same-long {B = ℕ} (b .numbers) 0 (panelSize file) i;
     picture = same-long {B = ℕ} (b .picture) 0 (panelSize file) i;
     rows = sym (length-replicate {A = ℕ} (length (b .rows)) 0) i;
   }
 
--- ---- what a job cuts off and gives back: n, k and q entries of the states, numbers and picture
-module _ (file : List ℕ) (b : Buffers) (p n k q : ℕ) (ep : p ≡ panelSize file)
-    (en : n ≡ min p (length (b .states))) (ek : k ≡ min p (length (b .numbers))) (eq : q ≡ min p (length (b .picture))) where
+-- ---- what a job cuts off and gives back: n and q entries of the states and the picture
+module _ (file : List ℕ) (b : Buffers) (p n q : ℕ) (ep : p ≡ panelSize file)
+    (en : n ≡ min p (length (b .states))) (eq : q ≡ min p (length (b .picture))) where
   cut-is : {A : Type 0} (l : List A) (m : ℕ) → m ≡ min p (length l) → take m l ≡ take (panelSize file) l
   cut-is l m e = ap (λ (j : ℕ). take j l) e ∙ take-cut l p ∙ ap (λ (j : ℕ). take j l) ep
 
@@ -66,26 +65,24 @@ module _ (file : List ℕ) (b : Buffers) (p n k q : ℕ) (ep : p ≡ panelSize f
   rest-is l m e = ap (λ (j : ℕ). drop j l) e ∙ drop-cut l p ∙ ap (λ (j : ℕ). drop j l) ep
 
   front : Buffers
-  front = buffers (b .old) (b .new) (take n (b .states)) (take k (b .numbers)) (take q (b .picture)) (b .rows)
+  front = buffers (b .old) (b .new) (take n (b .states)) (take q (b .picture)) (b .rows)
 
   front-is : front ≡ fitted file b
   unfolding front
-  front-is = λ i.
-      buffers (b .old) (b .new) (cut-is (b .states) n en i) (cut-is (b .numbers) k ek i) (cut-is (b .picture) q eq i) (b .rows)
+  front-is = λ i. buffers (b .old) (b .new) (cut-is (b .states) n en i) (cut-is (b .picture) q eq i) (b .rows)
 
-  pub fits-cut : Fits file (sizesOf b) (buffers (b .old) (b .new) (take n (b .states)) (take k (b .numbers)) (take q (b .picture)) (b .rows))
+  pub fits-cut : Fits file (sizesOf b) (buffers (b .old) (b .new) (take n (b .states)) (take q (b .picture)) (b .rows))
   unfolding front
   fits-cut = ap sizesOf front-is ∙ fits-front file b
 
   pub left-by : (f : Form) (x : Buffers)
-      → x ≡ played f file (buffers (b .old) (b .new) (take n (b .states)) (take k (b .numbers)) (take q (b .picture)) (b .rows)) .lent
+      → x ≡ played f file (buffers (b .old) (b .new) (take n (b .states)) (take q (b .picture)) (b .rows)) .lent
       → (
-      buffers (x .old) (x .new) (x .states ++ drop n (b .states)) (x .numbers ++ drop k (b .numbers)) (x .picture ++ drop q (b .picture))
-      (x .rows)
+      buffers (x .old) (x .new) (x .states ++ drop n (b .states)) (x .picture ++ drop q (b .picture)) (x .rows)
       ≡ leftBy f file b
       )
   unfolding front
   left-by f x e =
       let y = e ∙ ap (λ (c : Buffers). played f file c .lent) front-is in
-      λ i. buffers (y i .old) (y i .new) (y i .states ++ rest-is (b .states) n en i) (y i .numbers ++ rest-is (b .numbers) k ek i)
-      (y i .picture ++ rest-is (b .picture) q eq i) (y i .rows)
+      λ i. buffers (y i .old) (y i .new) (y i .states ++ rest-is (b .states) n en i) (y i .picture ++ rest-is (b .picture) q eq i)
+      (y i .rows)

@@ -46,7 +46,7 @@ module _ (f : Form) (file : List ℕ) (b c : Buffers) (e : sizesOf b ≡ sizesOf
       let g = configIn file in
       let s = e i in
       pick (eqb (refusal g) 0)
-      (pick (lengthsFit g (s .old) (s .new) (s .states) (s .numbers) (s .picture) (s .rows)) 0 5)
+      (pick (lengthsFit g (s .old) (s .new) (s .states) (s .picture) (s .rows)) 0 5)
       (refusal g)
 
   numbers-alike : playRefused f file b ≡ playRefused f file c

@@ -17,19 +17,18 @@ panelSize file = pixelCount (configIn file)
 abbrev pub fitted : List ℕ → Buffers → Buffers
 fitted file b =
     let n = panelSize file in
-    buffers (b .old) (b .new) (take n (b .states)) (take n (b .numbers)) (take n (b .picture)) (b .rows)
+    buffers (b .old) (b .new) (take n (b .states)) (take n (b .picture)) (b .rows)
 
 -- what is left of it: there what playing left, behind it what was lent
 abbrev pub leftBy : Form → List ℕ → Buffers → Buffers
 leftBy f file b =
     let n = panelSize file in
     let w = played f file (fitted file b) .lent in
-    buffers (w .old) (w .new) (w .states ++ drop n (b .states)) (w .numbers ++ drop n (b .numbers)) (w .picture ++ drop n (b .picture))
-    (w .rows)
+    buffers (w .old) (w .new) (w .states ++ drop n (b .states)) (w .picture ++ drop n (b .picture)) (w .rows)
 
 -- what `panel` lends beside the two planes
 abbrev pub panelLent : List ℕ → List ℕ → Buffers
-panelLent old new = buffers old new (replicate 8000 (pos 0)) (replicate 8000 0) (replicate 8000 0) (replicate 5120 0)
+panelLent old new = buffers old new (replicate 8000 (pos 0)) (replicate 8000 0) (replicate 5120 0)
 
 -- an answer for each event of the largest capture
 abbrev pub lentAnswers : List ℕ
@@ -41,15 +40,14 @@ sizesOf b = record {
   old = length (b .old);
   new = length (b .new);
   states = length (b .states);
-  numbers = length (b .numbers);
   picture = length (b .picture);
   rows = length (b .rows);
 }
 
 abbrev pub blank : Sizes → Buffers
 blank s =
-    buffers (replicate (s .old) 0) (replicate (s .new) 0) (replicate (s .states) (pos 0)) (replicate (s .numbers) 0)
-    (replicate (s .picture) 0) (replicate (s .rows) 0)
+    buffers (replicate (s .old) 0) (replicate (s .new) 0) (replicate (s .states) (pos 0)) (replicate (s .picture) 0)
+    (replicate (s .rows) 0)
 
 -- b is as large as the front of so much
 abbrev pub Fits : List ℕ → Sizes → Buffers → Type 0

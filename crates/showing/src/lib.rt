@@ -36,7 +36,6 @@ pub struct Sizes {
     pub old: usize,
     pub new: usize,
     pub states: usize,
-    pub numbers: usize,
     pub picture: usize,
     pub rows: usize,
 }
@@ -74,28 +73,16 @@ fn show_in(
     old: &mut [u8],
     new: &mut [u8],
     states: &mut [i64],
-    numbers: &mut [u8],
     picture: &mut [u8],
     rows: &mut [u64],
 ) -> bool
     requires { ⌜ Reads (now file) c ⌝ }
-    requires { ⌜ Fits (now file) sizes (lent old new states numbers picture rows) ⌝ }
+    requires { ⌜ Fits (now file) sizes (lent old new states picture rows) ⌝ }
     requires { ⌜ now answers ≡ lentAnswers ⌝ }
-    ensures { λ r. ⌜ after old new states numbers picture rows
-        ≡ played form (now (file .entry)) (before old new states numbers picture rows) .lent ⌝ }
+    ensures { λ r. ⌜ after old new states picture rows
+        ≡ played form (now (file .entry)) (before old new states picture rows) .lent ⌝ }
 {
-    let played = play(
-        form,
-        file,
-        c,
-        answers,
-        old,
-        new,
-        states,
-        numbers,
-        picture,
-        rows,
-    );
+    let played = play(form, file, c, answers, old, new, states, picture, rows);
     let chip = played.chip;
     let turned = played.refused;
     let log = chip.log;
@@ -123,19 +110,17 @@ pub fn show(
     old: &mut [u8],
     new: &mut [u8],
     states: &mut [i64],
-    numbers: &mut [u8],
     picture: &mut [u8],
     rows: &mut [u64],
 ) -> bool
-    ensures { λ r. ⌜ after old new states numbers picture rows
-        ≡ leftBy form (now (file .entry)) (before old new states numbers picture rows) ⌝ }
+    ensures { λ r. ⌜ after old new states picture rows
+        ≡ leftBy form (now (file .entry)) (before old new states picture rows) ⌝ }
 {
     let mut answers = [0u16; MOST_EVENTS];
     let sizes = Sizes {
         old: old.len(),
         new: new.len(),
         states: states.len(),
-        numbers: numbers.len(),
         picture: picture.len(),
         rows: rows.len(),
     };
@@ -143,7 +128,6 @@ pub fn show(
     let config = c.config;
     let pixels = capture::pixels(config);
     let n = cut(pixels, states.len());
-    let k = cut(pixels, numbers.len());
     let q = cut(pixels, picture.len());
     show_in(
         file,
@@ -155,7 +139,6 @@ pub fn show(
         old,
         new,
         &mut states[..n],
-        &mut numbers[..k],
         &mut picture[..q],
         rows,
     )
@@ -181,27 +164,15 @@ fn shade_in(
     old: &mut [u8],
     new: &mut [u8],
     states: &mut [i64],
-    numbers: &mut [u8],
     picture: &mut [u8],
     rows: &mut [u64],
 ) -> bool
     requires { ⌜ Reads (now file) c ⌝ }
-    requires { ⌜ Fits (now file) sizes (lent old new states numbers picture rows) ⌝ }
-    ensures { λ r. ⌜ after old new states numbers picture rows
-        ≡ played form (now (file .entry)) (before old new states numbers picture rows) .lent ⌝ }
+    requires { ⌜ Fits (now file) sizes (lent old new states picture rows) ⌝ }
+    ensures { λ r. ⌜ after old new states picture rows
+        ≡ played form (now (file .entry)) (before old new states picture rows) .lent ⌝ }
 {
-    let played = play(
-        form,
-        file,
-        c,
-        answers,
-        old,
-        new,
-        states,
-        numbers,
-        picture,
-        rows,
-    );
+    let played = play(form, file, c, answers, old, new, states, picture, rows);
     let chip = played.chip;
     tone(file, form, top, fd, sizes, chip, states)
 }
@@ -216,19 +187,17 @@ pub fn shade(
     old: &mut [u8],
     new: &mut [u8],
     states: &mut [i64],
-    numbers: &mut [u8],
     picture: &mut [u8],
     rows: &mut [u64],
 ) -> bool
-    ensures { λ r. ⌜ after old new states numbers picture rows
-        ≡ leftBy form (now (file .entry)) (before old new states numbers picture rows) ⌝ }
+    ensures { λ r. ⌜ after old new states picture rows
+        ≡ leftBy form (now (file .entry)) (before old new states picture rows) ⌝ }
 {
     let mut answers = [0u16; MOST_EVENTS];
     let sizes = Sizes {
         old: old.len(),
         new: new.len(),
         states: states.len(),
-        numbers: numbers.len(),
         picture: picture.len(),
         rows: rows.len(),
     };
@@ -236,7 +205,6 @@ pub fn shade(
     let config = c.config;
     let pixels = capture::pixels(config);
     let n = cut(pixels, states.len());
-    let k = cut(pixels, numbers.len());
     let q = cut(pixels, picture.len());
     shade_in(
         file,
@@ -249,7 +217,6 @@ pub fn shade(
         old,
         new,
         &mut states[..n],
-        &mut numbers[..k],
         &mut picture[..q],
         rows,
     )
@@ -262,7 +229,6 @@ pub fn show_panel(file: &[u8], old: &mut [u8], new: &mut [u8])
     ensures { λ r. ⌜ now (new .exit) ≡ leftBy Form.Panel (now (file .entry)) (panelLent (now (old .entry)) (now (new .entry))) .new ⌝ }
 {
     let mut states = [0i64; MOST_PIXELS];
-    let mut numbers = [0u8; MOST_PIXELS];
     let mut picture = [0u8; MOST_PIXELS];
     let mut rows = [0u64; ROWS];
     if !show(
@@ -272,7 +238,6 @@ pub fn show_panel(file: &[u8], old: &mut [u8], new: &mut [u8])
         old,
         new,
         &mut states,
-        &mut numbers,
         &mut picture,
         &mut rows,
     ) {

@@ -46,15 +46,14 @@ pub(crate) fn play(
     old: &mut [u8],
     new: &mut [u8],
     states: &mut [i64],
-    numbers: &mut [u8],
     picture: &mut [u8],
     rows: &mut [u64],
 ) -> Played
     requires { ⌜ Reads (now file) c ⌝ }
     ensures { λ r. ⌜ Makes (rule.played form (now (file .entry))) (rule.playRefused form (now (file .entry))) (r .chip) (r .refused)
-        old new states numbers picture rows ⌝ }
+        old new states picture rows ⌝ }
     ensures { λ r. ⌜ now (answers .exit)
-        ≡ rule.answersPlayed form (now (file .entry)) (before old new states numbers picture rows) (now (answers .entry)) ⌝ }
+        ≡ rule.answersPlayed form (now (file .entry)) (before old new states picture rows) (now (answers .entry)) ⌝ }
 {
     let refused = refusal(form, c);
     if refused.none() {
@@ -67,7 +66,6 @@ pub(crate) fn play(
             old,
             new,
             states,
-            numbers,
             picture,
             rows,
         );

@@ -8,7 +8,7 @@ use native.Mathlib.Omega.{arith}
 use native.Mathlib.Decide.{decLe}
 use lib.Dec.{eqb, ltb, leb}
 use lib.ListN.{length}
-use borrow.Author.Tests.{eqb-true, ltb-false}
+use borrow.Author.Tests.{eqb-true, eq-eqb, ltb-false}
 use Rattle.base.specs.Pick.{pick}
 use Rattle.base.proofs.Cases.{by-cases, both}
 use Rattle.command.specs.declared.kinds.Kind.{Kind}
@@ -29,23 +29,30 @@ use Rattle.controller.specs.declared.Current.the-variants as current
 use Rattle.controller.specs.declared.Work.{Work}
 use Rattle.controller.specs.declared.Work.the-variants as work
 use Rattle.controller.specs.declared.Uc8253.{Uc8253}
+use Rattle.controller.specs.declared.drives.Drive.the-variants as drive
+use Rattle.controller.specs.declared.notes.Note.the-variants.{Quiet}
 use Rattle.controller.specs.declared.uses.Use.{Use}
 use Rattle.controller.specs.declared.uses.Use.the-variants as use-for
-use Rattle.controller.specs.World.{World, Buffers, world}
-use Rattle.controller.specs.Setters.{withCurrent, withOld, withNew}
+use Rattle.controller.specs.World.{World, Buffers, buffers, world}
+use Rattle.controller.specs.Setters.{withCurrent, withLog, withOld, withNew}
 use Rattle.controller.specs.TurnedBack.{badArea, badPair, badRegisters, badCurrent, badConfig, badStage}
 use Rattle.controller.specs.TurnedBack.{badWork, foreignRecord, lentFits, endsRefresh, turnedBack}
 use Rattle.controller.specs.Arrives.{endedBy, ended, arrived}
-use Rattle.controller.specs.DataByte.{countedOf, doing, purposeOf, pixelChip, pastWindow, olderByte, newerByte, usedBy, dataByte, moreOf}
-use Rattle.controller.specs.Calls.{called}
+use Rattle.controller.specs.Tell.{notes, logTold, rowsTold}
+use Rattle.controller.specs.DataByte.{countedOf, doing, purposeOf, pastRow, pixelChip, pixelByte, usedBy, dataByte, moreOf}
+use Rattle.controller.specs.DataByte.{pastNote, usedNote, dataNote, putAt, forOld, forNew, planeByte}
+use Rattle.controller.specs.Planes.{copiedBy, oldArrived}
+use Rattle.controller.specs.Glass.{drivenAt, statesBy, pictureBy}
+use Rattle.controller.specs.Ask.{datum, recordAfter, oldAfter, newAfter, rowsAfter, lentAfter, did}
 use Rattle.controller.specs.Counting.{own}
 use Rattle.controller.proofs.Parts.{Stands, stands, good-cursor, next-stands}
+use Rattle.controller.proofs.TurnedAway.{did-yes}
 use Rattle.event.specs.declared.Event.{Event}
 use Rattle.streams.specs.declared.Change.{Change}
 use Rattle.streams.specs.declared.Flowed.{Flowed}
 use Rattle.event.specs.Events.{eventsIn, eventAt, eventDone, eventRefused, eventAnswer}
 use Rattle.event.proofs.EventLaws.{Does, does-data}
-use Rattle.streams.specs.InnerStretch.{ranOn, Stretch, putAt, onFrom, cursorTo, countTo, clockTo, planeTo, flowsBy, AllFlow}
+use Rattle.streams.specs.InnerStretch.{ranOn, Stretch, onFrom, cursorTo, countTo, clockTo, planeTo, flowsBy, AllFlow}
 use Rattle.streams.specs.InnerStretch.{Flows, flowedChip, FlowsInto, restsBy, calmWith, endlessBy, pixelsBy, Aimed}
 
 -- ---- tests that fail
@@ -142,14 +149,6 @@ module _ (p : Uc8253) (b : Buffers) (a : Active) where
   taken-at older s c n t u l d e =
       rw (s .home .config, s .home .regs, good-cursor (record { command = a .command; kind = a .kind; received = n; read = a .read; cursor = c; «extra_reported» = a .«extra_reported»; «past_reported» = a .«past_reported» }) d, s .home .runs, s .home .stored, fits-still older l e (s .fits), s .resting)
 
-  -- nothing ends as a byte arrives
-  arrived-at : (older : Bool) → Streams older p b a → (c : Cursor) (n t u : ℕ) (l : List ℕ)
-      → arrived u (flowed older p b a c n t l) ≡ flowed older p b a c n (max t u) l
-  unfolding arrived ended
-  arrived-at older s c n t u l =
-      let v : World = flowed older p b a c n (max t u) l in
-      both (λ (x : World). x ≡ v) (leb (p .operation .until) (max t u)) (ap (λ (x : Work). endedBy x v) (s .resting)) refl
-
   -- the command under way, so far along
   abbrev along : Cursor → ℕ → Active
   along c n = record { command = a .command; kind = a .kind; received = n; read = a .read; cursor = c; «extra_reported» = a .«extra_reported»; «past_reported» = a .«past_reported» }
@@ -166,33 +165,91 @@ module _ (p : Uc8253) (b : Buffers) (a : Active) where
   abbrev area : Area
   area = writtenOf (p .regs)
 
-  put-older : (c : Cursor) (n t v : ℕ) (l : List ℕ) → pick (ltb (area .y1) (c .y)) (a .«past_reported») true ≡ true
-      → olderByte (moreOf (along c n)) v (flowed true p b a c n t l) ≡ flowed true p b a (onFrom area c) (countedOf n) t (putAt area c v l)
-  unfolding olderByte pastWindow pixelChip putAt onFrom
-  put-older c n t v l f = by-cases (ltb (area .y1) (c .y)) (λ h. rw (h, rw h at f)) (λ h. rw h)
+  -- the byte is put, or passed over silently where that was reported
+  abbrev Fine : Cursor → Type 0
+  Fine c = pick (pastRow area c) (a .«past_reported») true ≡ true
 
-  put-newer : (c : Cursor) (n t v : ℕ) (l : List ℕ) → pick (ltb (area .y1) (c .y)) (a .«past_reported») true ≡ true
-      → newerByte (moreOf (along c n)) v (flowed false p b a c n t l)
-      ≡ flowed false p b a (onFrom area c) (countedOf n) t (putAt area c v l)
-  unfolding newerByte pastWindow pixelChip putAt onFrom
-  put-newer c n t v l f = by-cases (ltb (area .y1) (c .y)) (λ h. rw (h, rw h at f)) (λ h. rw h)
+  pixel-at : (c : Cursor) (n t : ℕ) → Fine c
+      → pixelByte (moreOf (along c n)) (flowedChip p a c n t) ≡ flowedChip p a (onFrom area c) (countedOf n) t
+  unfolding pixelByte pixelChip onFrom
+  pixel-at c n t f = by-cases (pastRow area c) (λ h. rw (h, rw h at f)) (λ h. rw h)
 
-  byte-at : (older : Bool) → Streams older p b a → (c : Cursor) (n t v : ℕ) (l : List ℕ)
-      → pick (ltb (area .y1) (c .y)) (a .«past_reported») true ≡ true
-      → dataByte own v (flowed older p b a c n t l) ≡ flowed older p b a (onFrom area c) (countedOf n) t (putAt area c v l)
-  unfolding dataByte
-  byte-at true s c n t v l f = ap (λ (u : Use). usedBy own u (along c n) v (flowed true p b a c n t l)) (used-for true s c n v) ∙ put-older c n t v l f
-  byte-at false s c n t v l f = ap (λ (u : Use). usedBy own u (along c n) v (flowed false p b a c n t l)) (used-for false s c n v) ∙ put-newer c n t v l f
+  quiet-at : (c : Cursor) (n t : ℕ) → Fine c → pastNote (along c n) (flowedChip p a c n t) ≡ Quiet
+  unfolding pastNote
+  quiet-at c n t f = by-cases (pastRow area c) (λ h. rw (h, rw h at f)) (λ h. rw h)
+
+  -- ---- a data byte at a time: the record, what it tells, the planes, the glass
+  module _ (older : Bool) (s : Streams older p b a) (c : Cursor) (n t u v : ℕ) (f : Fine c) where
+    abbrev here : Uc8253
+    here = flowedChip p a c n t
+
+    abbrev there : Uc8253
+    there = flowedChip p a c n (max t u)
+
+    -- nothing ends as it arrives
+    arrived-at : arrived u here ≡ there
+    unfolding arrived ended
+    arrived-at =
+        both (λ (x : Uc8253). x ≡ there) (leb (p .operation .until) (max t u)) (ap (λ (x : Work). endedBy x there) (s .resting)) refl
+
+    copied-at : (old new : List ℕ) → oldArrived u here old new ≡ old
+    unfolding oldArrived
+    copied-at old new =
+        both (λ (x : List ℕ). x ≡ old) (leb (p .operation .until) (max t u)) (ap (λ (x : Work). copiedBy x here old new) (s .resting)) refl
+
+    driven-at : drivenAt own false u here ≡ drive.Nothing
+    unfolding drivenAt endsRefresh
+    driven-at = rw (s .resting)
+
+    used-by : (older : Bool) → usedBy own (useFor older) (along c n) v there ≡ flowedChip p a (onFrom area c) (countedOf n) (max t u)
+    used-by true = pixel-at c n (max t u) f
+    used-by false = pixel-at c n (max t u) f
+
+    byte-at : dataByte own v there ≡ flowedChip p a (onFrom area c) (countedOf n) (max t u)
+    unfolding dataByte
+    byte-at = ap (λ (x : Use). usedBy own x (along c n) v there) (used-for older s c n v) ∙ used-by older
+
+    told-by : (older : Bool) → usedNote (useFor older) (along c n) v there ≡ Quiet
+    told-by true = quiet-at c n (max t u) f
+    told-by false = quiet-at c n (max t u) f
+
+    note-at : dataNote v (arrived u here) ≡ Quiet
+    unfolding dataNote
+    note-at = ap (dataNote v) arrived-at ∙ ap (λ (x : Use). usedNote x (along c n) v there) (used-for older s c n v) ∙ told-by older
+
+    record-at : recordAfter own (datum u v) here ≡ flowedChip p a (onFrom area c) (countedOf n) (max t u)
+    unfolding recordAfter
+    record-at =
+        let done = ap (dataByte own v) arrived-at ∙ byte-at in
+        λ i. withLog (logTold (notes (note-at i) Quiet) (done i .log)) (done i)
+
+    plane-at : (mine : Use → Bool) (l : List ℕ) → planeByte mine v (arrived u here) l ≡ pick (mine (useFor older)) (putAt area c v l) l
+    unfolding planeByte
+    plane-at mine l =
+        ap (λ (x : Uc8253). planeByte mine v x l) arrived-at
+        ∙ ap (λ (x : Use). pick (mine x) (putAt area c v l) l) (used-for older s c n v)
+
+    lent-at : (l : Buffers) → lentAfter own (datum u v) here l
+        ≡ buffers (pick (forOld (useFor older)) (putAt area c v (l .old)) (l .old))
+        (pick (forNew (useFor older)) (putAt area c v (l .new)) (l .new)) (l .states) (l .picture) (l .rows)
+    unfolding lentAfter oldAfter newAfter rowsAfter
+    lent-at l =
+        let old = ap (planeByte forOld v (arrived u here)) (copied-at (l .old) (l .new)) ∙ plane-at forOld (l .old) in
+        λ i. buffers (old i) (plane-at forNew (l .new) i) (statesBy (driven-at i) here (l .old) (l .new) (l .states))
+        (pictureBy (driven-at i) here (statesBy (driven-at i) here (l .old) (l .new) (l .states)) (l .picture))
+        (rowsTold (notes (note-at i) Quiet) (max t u) (p .log) (l .rows))
+
+  done-at : (older : Bool) → Streams older p b a → (c : Cursor) (n t u v : ℕ) (l : List ℕ) → Fine c
+      → lentAfter own (datum u v) (flowedChip p a c n t) (withPlane older l b) ≡ withPlane older (putAt area c v l) b
+  done-at true s c n t u v l f = lent-at true s c n t u v f (withPlane true l b)
+  done-at false s c n t u v l f = lent-at false s c n t u v f (withPlane false l b)
 
   -- an event of the run
   data-at : (older : Bool) → Streams older p b a → (e : Event) (c : Cursor) (n t : ℕ) (l : List ℕ) → Stands c
       → length l ≡ length (planeOf older b) → e .kind ≡ 2
-      → Does e (flowed older p b a c n t l) (dataByte own (e .value) (arrived (e .time) (flowed older p b a c n t l))) 0 257
-  unfolding called
+      → Does e (flowed older p b a c n t l) (did (datum (e .time) (e .value)) (flowed older p b a c n t l)) 0 257
   data-at older s e c n t l d q k =
-      let w : World = flowed older p b a c n t l in
-      let h : turnedBack false (e .time) w ≡ 0 = taken-at older s c n t (e .time) l d q in
-      does-data e w _ 0 k (rw h) (sym h)
+      does-data e (flowed older p b a c n t l) _ 0 k refl (sym (taken-at older s c n t (e .time) l d q))
 
   one-more : (older : Bool) → Streams older p b a → (e : Event) (c : Cursor) (n t : ℕ) (l : List ℕ) → Stands c
       → length l ≡ length (planeOf older b)
@@ -202,9 +259,10 @@ module _ (p : Uc8253) (b : Buffers) (a : Active) where
   unfolding flowsBy
   one-more older s e c n t l d q f =
       let g = each (eqb (e .kind) 2) _ f in
+      let h = taken-at older s c n t (e .time) l d q in
       sym (data-at older s e c n t l d q (eqb-true (e .kind) 2 (g .0)) .done)
-      ∙ ap (dataByte own (e .value)) (arrived-at older s c n t (e .time) l)
-      ∙ byte-at older s c n (max t (e .time)) (e .value) l (g .1)
+      ∙ did-yes (datum (e .time) (e .value)) (flowed older p b a c n t l) (eq-eqb (turnedBack false (e .time) (flowed older p b a c n t l)) 0 h)
+      ∙ (λ i. world (record-at older s c n t (e .time) (e .value) (g .1) i) (done-at older s c n t (e .time) (e .value) l (g .1) i))
 
 -- ---- where the cursor stands, and how long the plane is
 on-stands : (r : Area) (c : Cursor) → InRam r → Stands c → Stands (onFrom r c)
@@ -250,7 +308,7 @@ module _ (older : Bool) (p : Uc8253) (b : Buffers) (a : Active) (s : Streams old
 
   does-at : (k j : ℕ) → j < k → AllFlow bytes i k (writtenOf (p .regs)) (a .cursor) (a .«past_reported»)
       → Does (eventAt bytes (i + j)) (reached j)
-      (dataByte own (eventAt bytes (i + j) .value) (arrived (eventAt bytes (i + j) .time) (reached j))) 0 257
+      (did (datum (eventAt bytes (i + j) .time) (eventAt bytes (i + j) .value)) (reached j)) 0 257
   unfolding flowsBy
   does-at k j h all =
       data-at p b a older s (eventAt bytes (i + j)) _ _ _ _ (stands-at j) (long-at j) (eqb-true (eventAt bytes (i + j) .kind) 2 (each (eqb (eventAt bytes (i + j) .kind) 2) _ (all j h) .0))

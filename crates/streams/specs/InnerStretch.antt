@@ -4,7 +4,7 @@ use mathlib.Core.Path.{_≡_}
 use mathlib.Core.Bool.{Bool, true, false, _&&_, not}
 use mathlib.Core.List.{List}
 use Prim.Native.Nat.{ℕ, _+_, _≤_, _<_, max}
-use lib.Dec.{eqb, ltb}
+use lib.Dec.{eqb}
 use lib.ListN.{set}
 use Rattle.base.specs.Pick.{pick}
 use Rattle.base.specs.Turns.{turns}
@@ -15,7 +15,7 @@ use Rattle.command.specs.declared.kinds.Params.the-variants as params
 use Rattle.registers.specs.declared.Area.{Area}
 use Rattle.registers.specs.Written.{writtenOf}
 use Rattle.ram.specs.declared.Cursor.{Cursor}
-use Rattle.ram.specs.Write.{written, nextOf}
+use Rattle.ram.specs.Write.{nextOf}
 use Rattle.controller.specs.declared.Active.{Active}
 use Rattle.controller.specs.declared.Current.{Current}
 use Rattle.controller.specs.declared.Current.the-variants as current
@@ -25,7 +25,7 @@ use Rattle.controller.specs.declared.Uc8253.{Uc8253}
 use Rattle.controller.specs.World.{World}
 use Rattle.controller.specs.Setters.{withCurrent, withNow}
 use Rattle.controller.specs.TurnedBack.{foreignRecord}
-use Rattle.controller.specs.DataByte.{countedOf}
+use Rattle.controller.specs.DataByte.{countedOf, pastRow, putAt}
 use Rattle.streams.specs.declared.Change.{Change}
 use Rattle.streams.specs.declared.Flowed.{Flowed}
 use Rattle.streams.specs.declared.Target.{Target}
@@ -53,12 +53,9 @@ pub record Stretch (bytes : List ℕ) (i k : ℕ) (w v : World) : Type 0 where
 abbrev pub marked : ℕ → ℕ → List ℕ → List ℕ
 marked i k answers = turns k (λ j l. set l (i + j) 257) answers
 
--- ---- pixel bytes: past the last row of the area nothing is put, and the cursor stays
-unfoldable pub putAt : Area → Cursor → ℕ → List ℕ → List ℕ
-putAt a c b l = pick (ltb (a .y1) (c .y)) l (written l a (c .x) (c .y) b)
-
+-- ---- pixel bytes: past the last row of the area the cursor stays
 unfoldable pub onFrom : Area → Cursor → Cursor
-onFrom a c = pick (ltb (a .y1) (c .y)) c (nextOf a c)
+onFrom a c = pick (pastRow a c) c (nextOf a c)
 
 -- after k pixel bytes from event i on
 abbrev pub cursorTo : Area → ℕ → Cursor → Cursor
@@ -75,7 +72,7 @@ planeTo bytes i k a c l = turns k (λ j m. putAt a (cursorTo a j c) (eventAt byt
 
 -- a data byte, and none that is to be reported as past the window
 unfoldable pub flowsBy : ℕ → Area → Cursor → Bool → Bool
-flowsBy k a c reported = eqb k 2 && pick (ltb (a .y1) (c .y)) reported true
+flowsBy k a c reported = eqb k 2 && pick (pastRow a c) reported true
 
 abbrev pub AllFlow : List ℕ → ℕ → ℕ → Area → Cursor → Bool → Type 0
 AllFlow bytes i k a c reported = (j : ℕ) → j < k → flowsBy (eventAt bytes (i + j) .kind) a (cursorTo a j c) reported ≡ true

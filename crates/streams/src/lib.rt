@@ -4,6 +4,7 @@ ghost use mathlib.Core.Path.{_≡_};
 ghost use Prim.Native.Nat.{_≤_};
 ghost use Rattle.controller.specs.World.{world};
 ghost use Rattle.controller.specs.Lent.{before, after};
+ghost use Rattle.controller.specs.DataByte.{putAt};
 ghost use Rattle.event.specs.Events.{eventsIn};
 ghost use Rattle.streams.specs.InnerStretch as rule;
 use base::greatest;
@@ -63,7 +64,7 @@ fn flows(kind: u8, area: Area, at: Cursor, reported: bool) -> bool
 
 // Eight pixels at the cursor; past the last row nothing is put.
 fn put(plane: &mut [u8], area: Area, at: Cursor, byte: u8)
-    ensures { λ _. ⌜ now (plane .exit) ≡ rule.putAt area at byte (now (plane .entry)) ⌝ }
+    ensures { λ _. ⌜ now (plane .exit) ≡ putAt area at byte (now (plane .entry)) ⌝ }
 {
     if area.y1 < at.y {
         return;
@@ -250,13 +251,12 @@ fn stream_within(
     old: &mut [u8],
     new: &mut [u8],
     states: &[i64],
-    numbers: &[u8],
     picture: &[u8],
     rows: &[u64],
 ) -> Flowed
     requires { ⌜ from ≤ eventsIn (now events) ⌝ }
     ensures { λ r. ⌜ rule.Stretch (now (events .entry)) from (r .done)
-        (world p (before old new states numbers picture rows)) (world (r .chip) (after old new states numbers picture rows)) ⌝ }
+        (world p (before old new states picture rows)) (world (r .chip) (after old new states picture rows)) ⌝ }
 {
     let stage = p.stage;
     let config = p.config;
@@ -265,7 +265,6 @@ fn stream_within(
         old.len(),
         new.len(),
         states.len(),
-        numbers.len(),
         picture.len(),
         rows.len(),
     );
@@ -295,15 +294,14 @@ pub fn stream(
     old: &mut [u8],
     new: &mut [u8],
     states: &[i64],
-    numbers: &[u8],
     picture: &[u8],
     rows: &[u64],
 ) -> Flowed
     ensures { λ r. ⌜ rule.Stretch (now (events .entry)) from (r .done)
-        (world p (before old new states numbers picture rows)) (world (r .chip) (after old new states numbers picture rows)) ⌝ }
+        (world p (before old new states picture rows)) (world (r .chip) (after old new states picture rows)) ⌝ }
 {
     if from <= events.len() / EVENT_BYTES {
-        return stream_within(p, events, from, old, new, states, numbers, picture, rows);
+        return stream_within(p, events, from, old, new, states, picture, rows);
     }
     Flowed { chip: p, done: 0 }
 }

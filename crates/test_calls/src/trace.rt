@@ -63,12 +63,11 @@ fn meet(
     old: &mut [u8],
     new: &mut [u8],
     states: &mut [i64],
-    numbers: &mut [u8],
     picture: &mut [u8],
     rows: &mut [u64],
 ) -> Met {
     let at = event.time;
-    let s = step(p, event, old, new, states, numbers, picture, rows);
+    let s = step(p, event, old, new, states, picture, rows);
     let chip = s.chip;
     let refused = s.refused;
     let planes = digest_if(digested, old, new);
@@ -86,7 +85,6 @@ fn meet_all(
     old: &mut [u8],
     new: &mut [u8],
     states: &mut [i64],
-    numbers: &mut [u8],
     picture: &mut [u8],
     rows: &mut [u64],
 ) -> Tally {
@@ -105,7 +103,6 @@ fn meet_all(
             old,
             new,
             states,
-            numbers,
             picture,
             rows,
         );
@@ -124,28 +121,16 @@ fn retrace_in(
     old: &mut [u8],
     new: &mut [u8],
     states: &mut [i64],
-    numbers: &mut [u8],
     picture: &mut [u8],
     rows: &mut [u64],
 ) -> Tally {
     let config = c.config;
-    let made = power_on(config, old, new, states, numbers, picture, rows);
+    let made = power_on(config, old, new, states, picture, rows);
     let chip = made.chip;
     let refused = made.refused;
     let count = c.end / EVENT_BYTES;
     let start = held(t, 0, Which::Refused, refused.number() as u64, 0);
-    meet_all(
-        start,
-        chip,
-        file,
-        count,
-        old,
-        new,
-        states,
-        numbers,
-        picture,
-        rows,
-    )
+    meet_all(start, chip, file, count, old, new, states, picture, rows)
 }
 
 // How many pixels the panel has, and no more than there is room for.
@@ -167,7 +152,6 @@ pub(crate) fn retrace(t: Tally, file: &[u8]) -> Tally {
     let mut old = [0u8; PLANE];
     let mut new = [0u8; PLANE];
     let mut states = [0i64; MOST_PIXELS];
-    let mut numbers = [0u8; MOST_PIXELS];
     let mut picture = [0u8; MOST_PIXELS];
     let mut rows = [0u64; ROWS];
     let config = c.config;
@@ -179,7 +163,6 @@ pub(crate) fn retrace(t: Tally, file: &[u8]) -> Tally {
         &mut old,
         &mut new,
         &mut states[..n],
-        &mut numbers[..n],
         &mut picture[..n],
         &mut rows,
     )

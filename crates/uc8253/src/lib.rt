@@ -4,8 +4,6 @@
 //
 // A refused making gives back a record of zeros. No call has a condition: every command, data byte,
 // read, reset edge and time is accepted on every record that is not foreign.
-pub use arriving::advance;
-pub use arriving::set_reset;
 pub use controller::Answer;
 pub use making::power_on;
 pub use making::zeros;
@@ -22,12 +20,22 @@ pub use questions::take_diagnostics;
 pub use questions::wide_picture;
 ghost use Rattle.controller.specs.Ask as ask;
 ghost use Rattle.controller.specs.Lent.{Called, Answers};
+use arriving::arrive;
 use base::Refusal;
-use command_bytes::command_byte;
+use chip::after_advance;
+use chip::after_command;
+use chip::after_data;
+use chip::after_read;
+use chip::after_reset;
+use chip::after_rule;
 use controller::Read;
 use controller::Uc8253;
-use data_bytes::data_byte;
-use data_bytes::read_byte;
+use data_bytes::read_of;
+use lending::come;
+use lending::lend_command;
+use lending::lend_data;
+use lending::lend_read;
+use lending::lend_reset;
 
 // What a read gives back: the record, what turned it back, and the byte.
 pub struct ReadAnswer {
@@ -44,23 +52,18 @@ pub fn write_command(
     old: &mut [u8],
     new: &mut [u8],
     states: &mut [i64],
-    numbers: &mut [u8],
     picture: &mut [u8],
     rows: &mut [u64],
 ) -> Answer
-    ensures { λ r. ⌜ Called (ask.command at command) p (r .chip) (r .refused) old new states numbers picture rows ⌝ }
+    ensures { λ r. ⌜ Called (ask.command at command) p (r .chip) (r .refused) old new states picture rows ⌝ }
 {
-    let come = advance(p, at, old, new, states, numbers, picture, rows);
-    let here = come.chip;
-    let refused = come.refused;
+    let refused = come(p, at, false, old, new, states, picture, rows);
     if refused.none() {
-        let chip = command_byte(here, command, old, new, numbers, rows);
+        lend_command(p, at, command, rows);
+        let chip = after_command(p, at, command);
         return Answer { chip, refused };
     }
-    Answer {
-        chip: here,
-        refused,
-    }
+    Answer { chip: p, refused }
 }
 
 // A data byte (D/C# high).
@@ -71,23 +74,18 @@ pub fn write_data(
     old: &mut [u8],
     new: &mut [u8],
     states: &mut [i64],
-    numbers: &mut [u8],
     picture: &mut [u8],
     rows: &mut [u64],
 ) -> Answer
-    ensures { λ r. ⌜ Called (ask.datum at byte) p (r .chip) (r .refused) old new states numbers picture rows ⌝ }
+    ensures { λ r. ⌜ Called (ask.datum at byte) p (r .chip) (r .refused) old new states picture rows ⌝ }
 {
-    let come = advance(p, at, old, new, states, numbers, picture, rows);
-    let here = come.chip;
-    let refused = come.refused;
+    let refused = come(p, at, false, old, new, states, picture, rows);
     if refused.none() {
-        let chip = data_byte(here, byte, old, new, rows);
+        lend_data(p, at, byte, old, new, rows);
+        let chip = after_data(p, at, byte);
         return Answer { chip, refused };
     }
-    Answer {
-        chip: here,
-        refused,
-    }
+    Answer { chip: p, refused }
 }
 
 // The next byte of a read: what the controller drives, nothing when it drives nothing.
@@ -97,20 +95,17 @@ pub fn read_data(
     old: &mut [u8],
     new: &mut [u8],
     states: &mut [i64],
-    numbers: &mut [u8],
     picture: &mut [u8],
     rows: &mut [u64],
 ) -> ReadAnswer
-    ensures { λ r. ⌜ Called (ask.reading at) p (r .chip) (r .refused) old new states numbers picture rows ⌝ }
-    ensures { λ r. ⌜ Answers (ask.reading at) p (ask.byte (r .byte)) old new states numbers picture rows ⌝ }
+    ensures { λ r. ⌜ Called (ask.reading at) p (r .chip) (r .refused) old new states picture rows ⌝ }
+    ensures { λ r. ⌜ Answers (ask.reading at) p (ask.byte (r .byte)) old new states picture rows ⌝ }
 {
-    let come = advance(p, at, old, new, states, numbers, picture, rows);
-    let here = come.chip;
-    let refused = come.refused;
+    let refused = come(p, at, false, old, new, states, picture, rows);
     if refused.none() {
-        let r = read_byte(here, rows);
-        let chip = r.chip;
-        let byte = r.byte;
+        lend_read(p, at, rows);
+        let chip = after_read(p, at);
+        let byte = read_of(arrive(p, at));
         return ReadAnswer {
             chip,
             refused,
@@ -118,10 +113,53 @@ pub fn read_data(
         };
     }
     ReadAnswer {
-        chip: here,
+        chip: p,
         refused,
         byte: Read::Nothing,
     }
+}
+
+// `RST_N` went low (asserted) or was released.
+pub fn set_reset(
+    p: Uc8253,
+    at: u64,
+    asserted: bool,
+    old: &mut [u8],
+    new: &mut [u8],
+    states: &mut [i64],
+    picture: &mut [u8],
+    rows: &mut [u64],
+) -> Answer
+    ensures { λ r. ⌜ Called (ask.reset at asserted) p (r .chip) (r .refused) old new states picture rows ⌝ }
+{
+    let refused = come(p, at, asserted, old, new, states, picture, rows);
+    if refused.none() {
+        lend_reset(p, at, asserted, rows);
+        let chip = after_reset(p, at, asserted);
+        return Answer { chip, refused };
+    }
+    Answer { chip: p, refused }
+}
+
+// Brings the chip to a time: an operation whose end has come ends, and a refresh publishes its
+// picture.
+pub fn advance(
+    p: Uc8253,
+    at: u64,
+    old: &mut [u8],
+    new: &mut [u8],
+    states: &mut [i64],
+    picture: &mut [u8],
+    rows: &mut [u64],
+) -> Answer
+    ensures { λ r. ⌜ Called (ask.advance at) p (r .chip) (r .refused) old new states picture rows ⌝ }
+{
+    let refused = come(p, at, false, old, new, states, picture, rows);
+    if refused.none() {
+        let chip = after_advance(p, at);
+        return Answer { chip, refused };
+    }
+    Answer { chip: p, refused }
 }
 
 // VCOM's rule from the next refresh on: its table by its own frames, or by the pixel's phases (2026-08).
@@ -132,22 +170,15 @@ pub fn set_vcom_rule(
     old: &mut [u8],
     new: &mut [u8],
     states: &mut [i64],
-    numbers: &mut [u8],
     picture: &mut [u8],
     rows: &mut [u64],
 ) -> Answer
-    ensures { λ r. ⌜ Called (ask.vcomRule at «by_frame») p (r .chip) (r .refused) old new states numbers picture rows ⌝ }
+    ensures { λ r. ⌜ Called (ask.vcomRule at «by_frame») p (r .chip) (r .refused) old new states picture rows ⌝ }
 {
-    let come = advance(p, at, old, new, states, numbers, picture, rows);
-    let here = come.chip;
-    let refused = come.refused;
+    let refused = come(p, at, false, old, new, states, picture, rows);
     if refused.none() {
-        let mut chip = here;
-        chip.mode.vcom_by_frame = by_frame;
+        let chip = after_rule(p, at, by_frame);
         return Answer { chip, refused };
     }
-    Answer {
-        chip: here,
-        refused,
-    }
+    Answer { chip: p, refused }
 }

@@ -38,7 +38,6 @@ lent = record {
   old = replicate 60000 0;
   new = replicate 60000 0;
   states = replicate 8 (pos 0);
-  numbers = replicate 8 0;
   picture = replicate 8 0;
   rows = replicate 5120 0;
 }
@@ -47,7 +46,7 @@ config-taken : refusal (configIn example) ≡ 0
 unfolding configIn refusal emptyPanel oversizedPanel swingRefused periodRefused rateRefused badRate
 config-taken = refl
 
-fits : (l r : ℕ) → l ≡ 60000 → r ≡ 5120 → lengthsFit (configIn example) l l 8 8 8 r ≡ true
+fits : (l r : ℕ) → l ≡ 60000 → r ≡ 5120 → lengthsFit (configIn example) l l 8 8 r ≡ true
 unfolding configIn lengthsFit
 fits l r e d = rw (e, d)
 

@@ -37,18 +37,17 @@ pub fn make(
     old: &mut [u8],
     new: &mut [u8],
     states: &mut [i64],
-    numbers: &mut [u8],
     picture: &mut [u8],
     rows: &mut [u64],
 ) -> Answer
     ensures { λ r. ⌜ Makes (rule.configMade (now (config .entry))) (rule.configRefused (now (config .entry))) (r .chip) (r .refused)
-        old new states numbers picture rows ⌝ }
+        old new states picture rows ⌝ }
 {
     if bad_config(config, 0) {
         return turned(Refusal::BadEvent);
     }
     let c = config_of(config);
-    power_on(c, old, new, states, numbers, picture, rows)
+    power_on(c, old, new, states, picture, rows)
 }
 
 // The last time is an advance at the end.
@@ -58,11 +57,10 @@ pub fn finish(
     old: &mut [u8],
     new: &mut [u8],
     states: &mut [i64],
-    numbers: &mut [u8],
     picture: &mut [u8],
     rows: &mut [u64],
 ) -> Uc8253
-    ensures { λ r. ⌜ Turns (rule.finished body) p r old new states numbers picture rows ⌝ }
+    ensures { λ r. ⌜ Turns (rule.finished body) p r old new states picture rows ⌝ }
 {
     let time = body.now;
     let s = step(
@@ -75,7 +73,6 @@ pub fn finish(
         old,
         new,
         states,
-        numbers,
         picture,
         rows,
     );
@@ -89,11 +86,10 @@ fn play_events(
     old: &mut [u8],
     new: &mut [u8],
     states: &mut [i64],
-    numbers: &mut [u8],
     picture: &mut [u8],
     rows: &mut [u64],
 ) -> Uc8253
-    ensures { λ r. ⌜ Turns (calls (dumpEvents (now (dump .entry)))) p r old new states numbers picture rows ⌝ }
+    ensures { λ r. ⌜ Turns (calls (dumpEvents (now (dump .entry)))) p r old new states picture rows ⌝ }
 {
     let b = declarations(dump);
     let h = b.head;
@@ -108,13 +104,12 @@ fn play_events(
         old,
         new,
         states,
-        numbers,
         picture,
         rows,
     );
     let chip = t.chip;
     let body = t.body;
-    finish(chip, body, old, new, states, numbers, picture, rows)
+    finish(chip, body, old, new, states, picture, rows)
 }
 
 // A dump that is not turned back.
@@ -124,18 +119,17 @@ fn play_fine(
     old: &mut [u8],
     new: &mut [u8],
     states: &mut [i64],
-    numbers: &mut [u8],
     picture: &mut [u8],
     rows: &mut [u64],
 ) -> Answer
     ensures { λ r. ⌜ Makes (rule.finePlayed (now (config .entry)) (now (dump .entry))) (rule.configRefused (now (config .entry)))
-        (r .chip) (r .refused) old new states numbers picture rows ⌝ }
+        (r .chip) (r .refused) old new states picture rows ⌝ }
 {
-    let made = make(config, old, new, states, numbers, picture, rows);
+    let made = make(config, old, new, states, picture, rows);
     let chip = made.chip;
     let refused = made.refused;
     if refused.none() {
-        let last = play_events(chip, dump, old, new, states, numbers, picture, rows);
+        let last = play_events(chip, dump, old, new, states, picture, rows);
         return Answer {
             chip: last,
             refused,
@@ -152,12 +146,11 @@ pub fn play(
     old: &mut [u8],
     new: &mut [u8],
     states: &mut [i64],
-    numbers: &mut [u8],
     picture: &mut [u8],
     rows: &mut [u64],
 ) -> Answer
     ensures { λ r. ⌜ Makes (dumpPlayed (now (config .entry)) (now (dump .entry))) (dumpRefused (now (config .entry)) (now (dump .entry)))
-        (r .chip) (r .refused) old new states numbers picture rows ⌝ }
+        (r .chip) (r .refused) old new states picture rows ⌝ }
 {
     if config.len() != CONFIG_BYTES {
         return turned(Refusal::BrokenCapture);
@@ -166,6 +159,6 @@ pub fn play(
     match judged {
         Judged::Malformed => turned(Refusal::MalformedDump),
         Judged::Unsignalled => turned(Refusal::WrongSignals),
-        Judged::Fine => play_fine(dump, config, old, new, states, numbers, picture, rows),
+        Judged::Fine => play_fine(dump, config, old, new, states, picture, rows),
     }
 }

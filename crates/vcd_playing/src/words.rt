@@ -35,12 +35,11 @@ pub fn play_words(
     old: &mut [u8],
     new: &mut [u8],
     states: &mut [i64],
-    numbers: &mut [u8],
     picture: &mut [u8],
     rows: &mut [u64],
 ) -> Turn
     ensures { λ r. ⌜ rule.Plays (codesBy (now (head .entry)) h) (now (bytes .entry)) at last b r
-        (world p (before old new states numbers picture rows)) (world (r .chip) (after old new states numbers picture rows)) ⌝ }
+        (world p (before old new states picture rows)) (world (r .chip) (after old new states picture rows)) ⌝ }
 {
     let mut out = [0u8; ROOM];
     let mut answers = [0u16; 1];
@@ -57,7 +56,6 @@ pub fn play_words(
             old,
             new,
             states,
-            numbers,
             picture,
             rows,
         );

@@ -44,12 +44,11 @@ fn close_words(
     old: &mut [u8],
     new: &mut [u8],
     states: &mut [i64],
-    numbers: &mut [u8],
     picture: &mut [u8],
     rows: &mut [u64],
 ) -> Closed
     ensures { λ c. ⌜ ClosesWords (codesBy (now (head .entry)) (b .head)) b (now (bytes .entry)) at body c
-        (world p (before old new states numbers picture rows)) (world (c .chip) (after old new states numbers picture rows)) ⌝ }
+        (world p (before old new states picture rows)) (world (c .chip) (after old new states picture rows)) ⌝ }
 {
     let h = b.head;
     let t = play_words(
@@ -63,13 +62,12 @@ fn close_words(
         old,
         new,
         states,
-        numbers,
         picture,
         rows,
     );
     let last = t.body;
     let met = t.chip;
-    let chip = finish(met, last, old, new, states, numbers, picture, rows);
+    let chip = finish(met, last, old, new, states, picture, rows);
     let judged = verdict(b, last);
     let ending = Ending::Judged(judged);
     Closed { chip, ending }
@@ -84,14 +82,13 @@ pub fn close(
     old: &mut [u8],
     new: &mut [u8],
     states: &mut [i64],
-    numbers: &mut [u8],
     picture: &mut [u8],
     rows: &mut [u64],
 ) -> Closed
     ensures { λ c. ⌜ ((d : List ℕ) (w : World)
-        → rule.Stands d r (now (kept .entry)) (now (word .entry)) w (world p (before old new states numbers picture rows))
-        → rule.Closes (r .stage) d c w (world p (before old new states numbers picture rows))
-        (world (c .chip) (after old new states numbers picture rows))) ⌝ }
+        → rule.Stands d r (now (kept .entry)) (now (word .entry)) w (world p (before old new states picture rows))
+        → rule.Closes (r .stage) d c w (world p (before old new states picture rows))
+        (world (c .chip) (after old new states picture rows))) ⌝ }
 {
     let stage = r.stage;
     match stage {
@@ -107,7 +104,6 @@ pub fn close(
                 old,
                 new,
                 states,
-                numbers,
                 picture,
                 rows,
             )
@@ -122,7 +118,6 @@ pub fn close(
             old,
             new,
             states,
-            numbers,
             picture,
             rows,
         ),

@@ -77,13 +77,12 @@ fn play_part(
     old: &mut [u8],
     new: &mut [u8],
     states: &mut [i64],
-    numbers: &mut [u8],
     picture: &mut [u8],
     rows: &mut [u64],
 ) -> Step
     requires { ⌜ at ≤ length (now bytes) ⌝ }
     ensures { λ s. ⌜ inner.PlaysPart (now (kept .entry)) r (now (bytes .entry)) at s (now (word .entry)) (now (word .exit))
-        (world p (before old new states numbers picture rows)) (world (s .chip) (after old new states numbers picture rows)) ⌝ }
+        (world p (before old new states picture rows)) (world (s .chip) (after old new states picture rows)) ⌝ }
 {
     let b = r.begun;
     let h = b.head;
@@ -98,7 +97,6 @@ fn play_part(
         old,
         new,
         states,
-        numbers,
         picture,
         rows,
     );
@@ -119,13 +117,12 @@ fn go_on(
     old: &mut [u8],
     new: &mut [u8],
     states: &mut [i64],
-    numbers: &mut [u8],
     picture: &mut [u8],
     rows: &mut [u64],
 ) -> Step
-    ensures { λ s. ⌜ ((d : List ℕ) (w : World) → rule.Playing d r (now (kept .entry)) (now (word .entry)) w (world p (before old new states numbers picture rows))
+    ensures { λ s. ⌜ ((d : List ℕ) (w : World) → rule.Playing d r (now (kept .entry)) (now (word .entry)) w (world p (before old new states picture rows))
         → rule.Stands (d ++ now (bytes .entry)) (s .reader) (now (kept .entry)) (now (word .exit)) w
-        (world (s .chip) (after old new states numbers picture rows))) ⌝ }
+        (world (s .chip) (after old new states picture rows))) ⌝ }
 {
     let n = solid(bytes);
     if word.len() < r.carried {
@@ -154,7 +151,6 @@ fn go_on(
         old,
         new,
         states,
-        numbers,
         picture,
         rows,
     );
@@ -171,7 +167,6 @@ fn go_on(
         old,
         new,
         states,
-        numbers,
         picture,
         rows,
     )
@@ -189,7 +184,6 @@ fn settle(
     old: &mut [u8],
     new: &mut [u8],
     states: &mut [i64],
-    numbers: &mut [u8],
     picture: &mut [u8],
     rows: &mut [u64],
 ) -> Step
@@ -198,7 +192,7 @@ fn settle(
     requires { ⌜ Begins (take held (now kept)) b ⌝ }
     requires { ⌜ 0 < length (closed (drop (b .next) (take held (now kept)))) ⌝ }
     ensures { λ s. ⌜ rule.Stands (take held (now (kept .entry)) ++ drop taken (now (bytes .entry))) (s .reader) (now (kept .entry)) (now (word .exit))
-        (world p (before old new states numbers picture rows)) (world (s .chip) (after old new states numbers picture rows)) ⌝ }
+        (world p (before old new states picture rows)) (world (s .chip) (after old new states picture rows)) ⌝ }
 {
     let stage = Stage::Playing;
     let body = begun();
@@ -219,7 +213,6 @@ fn settle(
         old,
         new,
         states,
-        numbers,
         picture,
         rows,
     );
@@ -236,7 +229,6 @@ fn settle(
             old,
             new,
             states,
-            numbers,
             picture,
             rows,
         );
@@ -254,13 +246,12 @@ fn keep(
     old: &mut [u8],
     new: &mut [u8],
     states: &mut [i64],
-    numbers: &mut [u8],
     picture: &mut [u8],
     rows: &mut [u64],
 ) -> Step
     ensures { λ s. ⌜ ((d : List ℕ) → rule.Heading d (r .held) (now (kept .entry))
         → rule.Stands (d ++ now (bytes .entry)) (s .reader) (now (kept .exit)) (now (word .exit))
-        (world p (before old new states numbers picture rows)) (world (s .chip) (after old new states numbers picture rows))) ⌝ }
+        (world p (before old new states picture rows)) (world (s .chip) (after old new states picture rows))) ⌝ }
 {
     if kept.len() < r.held {
         return Step { reader: r, chip: p };
@@ -281,7 +272,6 @@ fn keep(
             old,
             new,
             states,
-            numbers,
             picture,
             rows,
         );
@@ -312,43 +302,18 @@ pub fn part(
     old: &mut [u8],
     new: &mut [u8],
     states: &mut [i64],
-    numbers: &mut [u8],
     picture: &mut [u8],
     rows: &mut [u64],
 ) -> Step
     ensures { λ s. ⌜ ((d : List ℕ) (w : World)
-        → rule.Stands d r (now (kept .entry)) (now (word .entry)) w (world p (before old new states numbers picture rows))
+        → rule.Stands d r (now (kept .entry)) (now (word .entry)) w (world p (before old new states picture rows))
         → rule.Stands (d ++ now (bytes .entry)) (s .reader) (now (kept .exit)) (now (word .exit)) w
-        (world (s .chip) (after old new states numbers picture rows))) ⌝ }
+        (world (s .chip) (after old new states picture rows))) ⌝ }
 {
     let stage = r.stage;
     match stage {
-        Stage::Heading => keep(
-            r,
-            p,
-            bytes,
-            kept,
-            word,
-            old,
-            new,
-            states,
-            numbers,
-            picture,
-            rows,
-        ),
-        Stage::Playing => go_on(
-            r,
-            p,
-            kept,
-            bytes,
-            word,
-            old,
-            new,
-            states,
-            numbers,
-            picture,
-            rows,
-        ),
+        Stage::Heading => keep(r, p, bytes, kept, word, old, new, states, picture, rows),
+        Stage::Playing => go_on(r, p, kept, bytes, word, old, new, states, picture, rows),
         Stage::HeadTooLong => Step { reader: r, chip: p },
         Stage::WordTooLong => Step { reader: r, chip: p },
     }

@@ -8,6 +8,7 @@ use native.Mathlib.Omega.{arith}
 use lib.Dec.{lit<, lit≤, leb, eqb}
 use lib.IntN.{ℤ, pos}
 use lib.ListN.{length}
+use borrow.Author.Tests.{eq-eqb}
 use Rattle.base.proofs.Cases.{both}
 use Rattle.config.specs.declared.Uc8253Config.{Uc8253Config}
 use Rattle.config.specs.declared.Variant.{Variant}
@@ -24,8 +25,6 @@ use Rattle.waveform.specs.Tables.{ends}
 use Rattle.waveform.proofs.TableLaws.{longest-empty}
 use Rattle.command.specs.declared.kinds.Kind.the-variants as kind
 use Rattle.command.specs.Kinds.{kindOf}
-use Rattle.diagnostic.specs.declared.DiagnosticKind.{DiagnosticKind}
-use Rattle.diagnostic.specs.declared.DiagnosticKind.the-variants.{NothingToRead}
 use Rattle.controller.specs.declared.Active.{Active}
 use Rattle.controller.specs.declared.Current.{Current}
 use Rattle.controller.specs.declared.Current.the-variants as current
@@ -34,17 +33,19 @@ use Rattle.controller.specs.declared.Power.the-variants as power
 use Rattle.controller.specs.declared.Uc8253.{Uc8253}
 use Rattle.controller.specs.declared.reads.Read.{Read}
 use Rattle.controller.specs.declared.reads.Read.the-variants.{Byte, Nothing}
-use Rattle.controller.specs.World.{World, Buffers, world, onChip}
-use Rattle.controller.specs.Setters.{withCurrent, modeOf}
-use Rattle.controller.specs.Tell.{tell}
+use Rattle.controller.specs.World.{World, Buffers}
+use Rattle.controller.specs.Setters.{modeOf}
 use Rattle.controller.specs.Arrives.{timed, rest, endedBy, ended, arrived}
-use Rattle.controller.specs.Command.{closed, barredNote, begun, executed, passed, commandByte}
-use Rattle.controller.specs.Reading.{flagsOf, bytesOf, byteAt, drivenByte, readFrom, readOf, readMore, missedBy, readingBy, reading}
+use Rattle.controller.specs.Command.{barredNote, begun, executed, commandByte}
+use Rattle.controller.specs.Reading.{flagsOf, bytesOf, byteAt, drivenByte, readFrom, readOf}
+use Rattle.controller.specs.Reading as byte
 use Rattle.controller.specs.Refresh.{waveformNow}
-use Rattle.controller.specs.Calls.{called, commandCall, readCall, readAnswer, firstChip, firstBuffers, made}
+use Rattle.controller.specs.Calls.{readAnswer, firstChip, made}
+use Rattle.controller.specs.Ask.{Ask, command, reading, recordAfter, refusedBy, did}
 use Rattle.controller.specs.Sound.{Sound}
 use Rattle.controller.specs.Counting.{own}
-use Rattle.controller.proofs.Sound.{sound-made, sound-arrived, sound-command, sound-reading, never-turned}
+use Rattle.controller.proofs.Sound.{sound-made, sound-done, never-turned}
+use Rattle.controller.proofs.TurnedAway.{doneTo, did-yes}
 use Rattle.walk.specs.Machine.{framesAt}
 use Rattle.walk.specs.OnePixel.{bench, slow}
 use Rattle.walk.specs.Table.{powerBytes, drivesOfSeven, AllEmpty, afterReads, answers, Made8279d, Table}
@@ -103,16 +104,15 @@ unfolding bytesOf flagsOf
 bytes-71 p r = rw (r .rests, r .mode, r .whole)
 
 -- nothing comes to its end
-arrives : (t : ℕ) (w : World) → w .chip .operation ≡ rest → arrived t w ≡ timed t w
+arrives : (t : ℕ) (p : Uc8253) → p .operation ≡ rest → arrived t p ≡ timed t p
 unfolding arrived ended
-arrives t w e =
-    both (λ (v : World). v ≡ timed t w) (leb (w .chip .operation .until) (max (w .chip .now) t))
-    (ap (λ (o : Operation). endedBy (o .work) (timed t w)) e) refl
+arrives t p e =
+    both (λ (q : Uc8253). q ≡ timed t p) (leb (p .operation .until) (max (p .now) t))
+    (ap (λ (o : Operation). endedBy (o .work) (timed t p)) e) refl
 
 -- a sound world takes every call
-takes : (t : ℕ) (f : World → World) (w : World) → Sound w → called false t f w ≡ f (arrived t w)
-unfolding called
-takes t f w s = rw (never-turned false t w s)
+takes : (a : Ask) (w : World) → Sound w → refusedBy a w ≡ 0 → did a w ≡ doneTo own a w
+takes a w s e = did-yes a w (eq-eqb (refusedBy a w) 0 e)
 
 -- the command c under way, of which n bytes were read
 abbrev order : ℕ → ℕ → Active
@@ -126,73 +126,68 @@ order c n = record {
   «past_reported» = false;
 }
 
-record Under (c n : ℕ) (w : World) : Type 0 where
-  rested : Rested (w .chip)
-  current : w .chip .stage .current ≡ current.Active (order c n)
+record Under (c n : ℕ) (p : Uc8253) : Type 0 where
+  rested : Rested p
+  current : p .stage .current ≡ current.Active (order c n)
 
-told-under : (c n : ℕ) (d : DiagnosticKind) (w : World) → Under c n w → Under c n (tell d w)
-unfolding tell
-told-under c n d w u =
+-- the record after a read: the log is not looked at
+read-record : (c n t : ℕ) (p : Uc8253) → Under c n p → Under c (min (n + 1) 65535) (recordAfter own (reading t) p)
+unfolding recordAfter byte.reading
+read-record c n t p u =
     let r = u .rested in
-    record { rested = record { chip = r .chip; rests = r .rests; mode = r .mode; whole = r .whole }; current = u .current }
-
-missed-under : (c n : ℕ) (b : Read) (a : Active) (w : World) → Under c n w → Under c n (missedBy b a w)
-missed-under c n (Byte x) a w u = u
-missed-under c n Nothing a w u = both (Under c n) (eqb (a .read) 0) (told-under c n (NothingToRead (a .command)) w u) u
-
-timed-under : (c n t : ℕ) (w : World) → Under c n w → Under c n (timed t w)
-timed-under c n t w u =
-    let r = u .rested in
-    record { rested = record { chip = r .chip; rests = r .rests; mode = r .mode; whole = r .whole }; current = u .current }
-
-reading-under : (c n : ℕ) (w : World) → Under c n w → Under c (min (n + 1) 65535) (reading w)
-unfolding reading
-reading-under c n w u =
-    let r = u .rested in
-    subst (λ (x : Current). Under c (min (n + 1) 65535) (readingBy x w)) (sym (u .current))
-    (missed-under c (min (n + 1) 65535) (drivenByte (w .chip .config .variant) (w .chip) c n) (order c n)
-    (onChip (withCurrent (current.Active (readMore (order c n)))) w)
-    (record { rested = record { chip = r .chip; rests = r .rests; mode = r .mode; whole = r .whole }; current = refl }))
+    let here : Under c n (timed t p) = record {
+      rested = record { chip = r .chip; rests = r .rests; mode = r .mode; whole = r .whole };
+      current = u .current;
+    } in
+    let on : Under c (min (n + 1) 65535) (byte.readingBy (timed t p .stage .current) (timed t p)) =
+    subst (λ (x : Current). Under c (min (n + 1) 65535) (byte.readingBy x (timed t p))) (sym (u .current))
+    (record { rested = record { chip = r .chip; rests = r .rests; mode = r .mode; whole = r .whole }; current = refl }) in
+    let told : Under c (min (n + 1) 65535) (byte.reading (arrived t p)) =
+    subst (λ (q : Uc8253). Under c (min (n + 1) 65535) (byte.reading q)) (sym (arrives t p (r .rests))) on in
+    let v = told .rested in
+    record { rested = record { chip = v .chip; rests = v .rests; mode = v .mode; whole = v .whole }; current = told .current }
 
 -- reads of a command that gives these bytes
 module _ (c : ℕ) (bs : List ℕ) (gives : (p : Uc8253) → Rested p → bytesOf c p ≡ bs) where
-  reads : (n : ℕ) (w : World) → Under c n w → readOf (w .chip) ≡ byteAt bs n
+  reads : (n : ℕ) (p : Uc8253) → Under c n p → readOf p ≡ byteAt bs n
   unfolding readOf
-  reads n w u =
-      ap (λ (x : Current). readFrom x (w .chip)) (u .current)
-      ∙ ap (λ (v : Variant). drivenByte v (w .chip) c n) (u .rested .chip)
-      ∙ ap (λ (l : List ℕ). byteAt l n) (gives (w .chip) (u .rested))
+  reads n p u =
+      ap (λ (x : Current). readFrom x p) (u .current)
+      ∙ ap (λ (v : Variant). drivenByte v p c n) (u .rested .chip)
+      ∙ ap (λ (l : List ℕ). byteAt l n) (gives p (u .rested))
 
-  answer : (t n : ℕ) (w : World) → Sound w → Under c n w → readAnswer t w ≡ byteAt bs n
+  answer : (t n : ℕ) (w : World) → Sound w → Under c n (w .chip) → readAnswer t w ≡ byteAt bs n
   unfolding readAnswer
   answer t n w s u =
-      let a : arrived t w ≡ timed t w = arrives t w (u .rested .rests) in
-      rw (never-turned false t w s, a) (reads n (timed t w) (timed-under c n t w u))
+      let r = u .rested in
+      let a : arrived t (w .chip) ≡ timed t (w .chip) = arrives t (w .chip) (r .rests) in
+      rw (never-turned false t w s, a)
+      (reads n (timed t (w .chip))
+      (record { rested = record { chip = r .chip; rests = r .rests; mode = r .mode; whole = r .whole }; current = u .current }))
 
-  read-sound : (t : ℕ) (w : World) → Sound w → Sound (readCall t w)
-  read-sound t w s = subst (λ (v : World). Sound v) (sym (takes t reading w s)) (sound-reading (arrived t w) (sound-arrived t w s))
+  read-sound : (t : ℕ) (w : World) → Sound w → Sound (did (reading t) w)
+  read-sound t w s = subst (λ (v : World). Sound v) (sym (takes (reading t) w s (never-turned false t w s))) (sound-done (reading t) w tt s)
 
-  read-under : (t n : ℕ) (w : World) → Sound w → Under c n w → Under c (min (n + 1) 65535) (readCall t w)
+  read-under : (t n : ℕ) (w : World) → Sound w → Under c n (w .chip) → Under c (min (n + 1) 65535) (did (reading t) w .chip)
   read-under t n w s u =
-      subst (λ (v : World). Under c (min (n + 1) 65535) v)
-      (sym (takes t reading w s ∙ ap reading (arrives t w (u .rested .rests))))
-      (reading-under c n (timed t w) (timed-under c n t w u))
+      subst (λ (v : World). Under c (min (n + 1) 65535) (v .chip)) (sym (takes (reading t) w s (never-turned false t w s)))
+      (read-record c n t (w .chip) u)
 
   -- a read for each of the times, from byte number n on
   abbrev listed : ℕ → List ℕ → List Read
   listed n [] = []
   listed n (t ∷ ts) = byteAt bs n ∷ listed (min (n + 1) 65535) ts
 
-  answers-listed : (ts : List ℕ) (n : ℕ) (w : World) → Sound w → Under c n w → answers ts w ≡ listed n ts
+  answers-listed : (ts : List ℕ) (n : ℕ) (w : World) → Sound w → Under c n (w .chip) → answers ts w ≡ listed n ts
   answers-listed [] n w s u = refl
   answers-listed (t ∷ ts) n w s u =
-      λ i. answer t n w s u i ∷ answers-listed ts (min (n + 1) 65535) (readCall t w) (read-sound t w s) (read-under t n w s u) i
+      λ i. answer t n w s u i ∷ answers-listed ts (min (n + 1) 65535) (did (reading t) w) (read-sound t w s) (read-under t n w s u) i
 
   last-answer : (m u : ℕ) → m ≤ 65535 → ((n : ℕ) → m ≤ n → byteAt bs n ≡ Nothing)
-      → (ts : List ℕ) (n : ℕ) (w : World) → Sound w → Under c n w → m ≤ n + length ts → readAnswer u (afterReads ts w) ≡ Nothing
+      → (ts : List ℕ) (n : ℕ) (w : World) → Sound w → Under c n (w .chip) → m ≤ n + length ts → readAnswer u (afterReads ts w) ≡ Nothing
   last-answer m u most none [] n w s o h = answer u n w s o ∙ none n (omega arith)
   last-answer m u most none (t ∷ ts) n w s o h =
-      last-answer m u most none ts (min (n + 1) 65535) (readCall t w) (read-sound t w s) (read-under t n w s o) (omega arith)
+      last-answer m u most none ts (min (n + 1) 65535) (did (reading t) w) (read-sound t w s) (read-under t n w s o) (omega arith)
 
 past-70 : (n : ℕ) → 5 ≤ n → byteAt identity n ≡ Nothing
 past-70 zero h = absurd (omega arith)
@@ -207,32 +202,35 @@ module _ (g : Uc8253Config) (b : Buffers) (h : Made8279d g b) (t : ℕ) where
   made-sound : Sound (made g b)
   made-sound = sound-made g b (h .gray) (h .accepted)
 
-  command-sound : (c : ℕ) → c < 256 → Sound (commandCall own t c (made g b))
+  command-sound : (c : ℕ) → c < 256 → Sound (did (command t c) (made g b))
   command-sound c l =
-      subst (λ (v : World). Sound v) (sym (takes t (commandByte own c) (made g b) made-sound))
-      (sound-command c (arrived t (made g b)) l (sound-arrived t (made g b) made-sound))
+      subst (λ (v : World). Sound v) (sym (takes (command t c) (made g b) made-sound (never-turned false t (made g b) made-sound)))
+      (sound-done (command t c) (made g b) l made-sound)
 
-  abbrev first : World
-  first = timed t (world (firstChip g) (firstBuffers g))
-
-  command-is : (c : ℕ) → commandCall own t c (made g b) ≡ commandByte own c first
-  unfolding firstChip
+  command-is : (c : ℕ) → did (command t c) (made g b) .chip ≡ recordAfter own (command t c) (firstChip g)
   command-is c =
-      takes t (commandByte own c) (made g b) made-sound
-      ∙ ap (λ (v : World). commandByte own c (arrived t v)) (made-is g b (h .accepted))
-      ∙ ap (commandByte own c) (arrives t (world (firstChip g) (firstBuffers g)) refl)
+      ap (λ (v : World). v .chip) (takes (command t c) (made g b) made-sound (never-turned false t (made g b) made-sound))
+      ∙ ap (λ (v : World). recordAfter own (command t c) (v .chip)) (made-is g b (h .accepted))
 
-  under-70 : Under 0x70 0 (commandCall own t 0x70 (made g b))
-  unfolding firstChip commandByte closed passed barredNote kindOf begun executed resetOf activeOf writtenOf
+  -- nothing has come to its end, and the log is not looked at
+  under-command : (c : ℕ) → Under c 0 (commandByte own c (timed t (firstChip g))) → Under c 0 (did (command t c) (made g b) .chip)
+  unfolding firstChip recordAfter
+  under-command c u =
+      let v : Under c 0 (commandByte own c (arrived t (firstChip g))) =
+      subst (λ (p : Uc8253). Under c 0 (commandByte own c p)) (sym (arrives t (firstChip g) refl)) u in
+      let r = v .rested in
+      subst (λ (p : Uc8253). Under c 0 p) (sym (command-is c))
+      (record { rested = record { chip = r .chip; rests = r .rests; mode = r .mode; whole = r .whole }; current = v .current })
+
+  under-70 : Under 0x70 0 (did (command t 0x70) (made g b) .chip)
+  unfolding firstChip commandByte barredNote kindOf begun executed resetOf activeOf writtenOf
   under-70 =
-      subst (λ (v : World). Under 0x70 0 v) (sym (command-is 0x70))
-      (record { rested = record { chip = h .chip; rests = refl; mode = refl; whole = refl }; current = refl })
+      under-command 0x70 (record { rested = record { chip = h .chip; rests = refl; mode = refl; whole = refl }; current = refl })
 
-  under-71 : Under 0x71 0 (commandCall own t 0x71 (made g b))
-  unfolding firstChip commandByte closed passed barredNote kindOf begun executed resetOf activeOf writtenOf
+  under-71 : Under 0x71 0 (did (command t 0x71) (made g b) .chip)
+  unfolding firstChip commandByte barredNote kindOf begun executed resetOf activeOf writtenOf
   under-71 =
-      subst (λ (v : World). Under 0x71 0 v) (sym (command-is 0x71))
-      (record { rested = record { chip = h .chip; rests = refl; mode = refl; whole = refl }; current = refl })
+      under-command 0x71 (record { rested = record { chip = h .chip; rests = refl; mode = refl; whole = refl }; current = refl })
 
 pub acceptance : Table
 unfolding levelOfCode resetOf putAt byteOf tenBits activeOf windowSet heldArea step hold waveformNow resetLuts ends framesAt
@@ -272,12 +270,12 @@ acceptance = record {
   empty-met = λ v. empty-reset (made (slow v) bench .chip) (luts-met v);
   made-met = made-met;
   read-71 = λ c b h t t0 t1.
-      answers-listed 0x71 (0x13 ∷ []) bytes-71 (t0 ∷ t1 ∷ []) 0 (commandCall own t 0x71 (made c b))
+      answers-listed 0x71 (0x13 ∷ []) bytes-71 (t0 ∷ t1 ∷ []) 0 (did (command t 0x71) (made c b))
       (command-sound c b h t 0x71 (lit< tt)) (under-71 c b h t);
   read-70 = λ c b h t t0 t1 t2 t3 t4 t5.
-      answers-listed 0x70 identity bytes-70 (t0 ∷ t1 ∷ t2 ∷ t3 ∷ t4 ∷ t5 ∷ []) 0 (commandCall own t 0x70 (made c b))
+      answers-listed 0x70 identity bytes-70 (t0 ∷ t1 ∷ t2 ∷ t3 ∷ t4 ∷ t5 ∷ []) 0 (did (command t 0x70) (made c b))
       (command-sound c b h t 0x70 (lit< tt)) (under-70 c b h t);
   then-none = λ c b h t u ts l.
-      last-answer 0x70 identity bytes-70 5 u (lit≤ tt) past-70 ts 0 (commandCall own t 0x70 (made c b))
+      last-answer 0x70 identity bytes-70 5 u (lit≤ tt) past-70 ts 0 (did (command t 0x70) (made c b))
       (command-sound c b h t 0x70 (lit< tt)) (under-70 c b h t) (omega arith);
 }

@@ -1,7 +1,8 @@
--- A call arrives: the controller's clock and ends, seen as the machine's.
+-- A call arrives: the controller's clock, its ends and the copy of new to old, seen as the machine's.
 use mathlib.Core.Path.{_≡_, refl, ap, _∙_}
 use mathlib.Core.Bool.{Bool, true, false, _&&_, true≢false}
-use Prim.Native.Nat.{ℕ}
+use mathlib.Core.List.{List}
+use Prim.Native.Nat.{ℕ, max}
 use lib.Dec.{leb}
 use Rattle.base.specs.Pick.{pick}
 use Rattle.base.proofs.Cases.{by-cases}
@@ -9,60 +10,58 @@ use Rattle.registers.specs.Flags.{copiesNewToOld}
 use Rattle.controller.specs.declared.Power.{Power}
 use Rattle.controller.specs.declared.Power.the-variants as power
 use Rattle.controller.specs.declared.Refresh.{Refresh}
+use Rattle.controller.specs.declared.Uc8253.{Uc8253}
 use Rattle.controller.specs.declared.Work.{Work}
 use Rattle.controller.specs.declared.Work.the-variants as work
-use Rattle.controller.specs.World.{World}
-use Rattle.controller.specs.Arrives.{timed, endedBy, ended, arrived}
 use Rattle.controller.specs.Command.{busy}
-use Rattle.controller.specs.Refresh.{endedRefresh, copiedAfter, finished}
-use Rattle.walk.specs.Machine.{due, settled}
-use Rattle.walk.proofs.Seen.{machineOf, view, drivenBy, Calm}
+use Rattle.controller.specs.Arrives.{timed, endedBy, ended, arrived}
+use Rattle.controller.specs.Refresh.{endedRefresh}
+use Rattle.controller.specs.Planes.{oldArrived}
+use Rattle.walk.specs.Machine.{settled}
+use Rattle.walk.proofs.Seen.{seen, Calm}
 
--- the end of the operation, by what it is
-module _ (w : World) (calm : Calm (machineOf w)) where
-  asleep-ends : (y : Power) → w .chip .operation .work ≡ work.DeepSleep → w .chip .mode .power ≡ y
-      → leb (w .chip .operation .until) (w .chip .now) ≡ true
-      → view (ended w) ≡ drivenBy w (due (w .chip .config) (machineOf w .job) (machineOf w))
-  unfolding ended
+module _ (t : ℕ) (p : Uc8253) (old new : List ℕ) (calm : Calm (seen p old new)) where
+  abbrev Settles : Type 0
+  Settles = seen (arrived t p) (oldArrived t p old new) new ≡ settled (p .config) t (seen p old new) .machine
+
+  asleep-ends : (y : Power) → p .operation .work ≡ work.DeepSleep → p .mode .power ≡ y → leb (p .operation .until) (max (p .now) t) ≡ true → Settles
+  unfolding arrived ended settled oldArrived
   asleep-ends power.Running e k l = rw (e, k, l)
   asleep-ends power.Asleep e k l = rw (e, k, l)
   asleep-ends power.InReset e k l = absurd (true≢false (rw (e, k) at (calm .still) refl))
 
-  refresh-ends : (r : Refresh) → w .chip .operation .work ≡ work.Refresh r
-      → view (ended w) ≡ drivenBy w (due (w .chip .config) (machineOf w .job) (machineOf w))
-  unfolding ended endedRefresh copiedAfter finished
+  refresh-ends : (r : Refresh) → p .operation .work ≡ work.Refresh r → Settles
+  unfolding arrived ended settled oldArrived endedRefresh
   refresh-ends r e =
-      by-cases (leb (w .chip .operation .until) (w .chip .now))
-      (λ l. by-cases (copiesNewToOld (w .chip .config .variant) (w .chip .regs)) (λ k. rw (e, l, k)) (λ k. rw (e, l, k)))
+      by-cases (leb (p .operation .until) (max (p .now) t))
+      (λ l. by-cases (copiesNewToOld (p .config .variant) (p .regs)) (λ k. rw (e, l, k)) (λ k. rw (e, l, k)))
       (λ l. rw (e, l))
 
-  view-ended : (x : Work) → w .chip .operation .work ≡ x
-      → view (ended w) ≡ drivenBy w (due (w .chip .config) (machineOf w .job) (machineOf w))
-  unfolding ended
-  view-ended work.Nothing e = by-cases (leb (w .chip .operation .until) (w .chip .now)) (λ l. rw (e, l)) (λ l. rw (e, l))
-  view-ended work.PowerOn e = by-cases (leb (w .chip .operation .until) (w .chip .now)) (λ l. rw (e, l)) (λ l. rw (e, l))
-  view-ended work.PowerOff e = by-cases (leb (w .chip .operation .until) (w .chip .now)) (λ l. rw (e, l)) (λ l. rw (e, l))
-  view-ended work.DeepSleep e =
-      by-cases (leb (w .chip .operation .until) (w .chip .now)) (λ l. asleep-ends (w .chip .mode .power) e refl l) (λ l. rw (e, l))
-  view-ended work.SoftReset e = by-cases (leb (w .chip .operation .until) (w .chip .now)) (λ l. rw (e, l)) (λ l. rw (e, l))
-  view-ended work.HardwareReset e = by-cases (leb (w .chip .operation .until) (w .chip .now)) (λ l. rw (e, l)) (λ l. rw (e, l))
-  view-ended (work.Refresh r) e = refresh-ends r e
+  settles-by : (x : Work) → p .operation .work ≡ x → Settles
+  unfolding arrived ended settled oldArrived
+  settles-by work.Nothing e = by-cases (leb (p .operation .until) (max (p .now) t)) (λ l. rw (e, l)) (λ l. rw (e, l))
+  settles-by work.PowerOn e = by-cases (leb (p .operation .until) (max (p .now) t)) (λ l. rw (e, l)) (λ l. rw (e, l))
+  settles-by work.PowerOff e = by-cases (leb (p .operation .until) (max (p .now) t)) (λ l. rw (e, l)) (λ l. rw (e, l))
+  settles-by work.DeepSleep e =
+      by-cases (leb (p .operation .until) (max (p .now) t)) (λ l. asleep-ends (p .mode .power) e refl l) (λ l. rw (e, l))
+  settles-by work.SoftReset e = by-cases (leb (p .operation .until) (max (p .now) t)) (λ l. rw (e, l)) (λ l. rw (e, l))
+  settles-by work.HardwareReset e = by-cases (leb (p .operation .until) (max (p .now) t)) (λ l. rw (e, l)) (λ l. rw (e, l))
+  settles-by (work.Refresh r) e = refresh-ends r e
 
-pub view-arrived : (t : ℕ) (w : World) → Calm (machineOf w) → view (arrived t w) ≡ drivenBy w (settled (w .chip .config) t (machineOf w))
-unfolding arrived settled
-view-arrived t w calm = view-ended (timed t w) (record { still = calm .still; deaf = calm .deaf }) (w .chip .operation .work) refl
+  pub seen-arrived : seen (arrived t p) (oldArrived t p old new) new ≡ settled (p .config) t (seen p old new) .machine
+  seen-arrived = settles-by (p .operation .work) refl
 
 -- after it what still runs has its end above the clock
-abbrev pub Waits : World → Type 0
-Waits w = (busy (w .chip .operation .work) && leb (w .chip .operation .until) (w .chip .now)) ≡ false
+abbrev pub Waits : Uc8253 → Type 0
+Waits p = (busy (p .operation .work) && leb (p .operation .until) (p .now)) ≡ false
 
 and-false : (a : Bool) → (a && false) ≡ false
 and-false true = refl
 and-false false = refl
 
-module _ (w : World) where
-  waits-by : (x : Work) → w .chip .operation .work ≡ x → Waits (endedBy x w)
-  waits-by work.Nothing e = ap (λ (y : Work). busy y && leb (w .chip .operation .until) (w .chip .now)) e
+module _ (p : Uc8253) where
+  waits-by : (x : Work) → p .operation .work ≡ x → Waits (endedBy x p)
+  waits-by work.Nothing e = ap (λ (y : Work). busy y && leb (p .operation .until) (p .now)) e
   waits-by work.PowerOn e = refl
   waits-by work.PowerOff e = refl
   waits-by work.DeepSleep e = refl
@@ -70,14 +69,14 @@ module _ (w : World) where
   waits-by work.HardwareReset e = refl
   waits-by (work.Refresh r) e = refl
 
-  waits-picked : (t : Bool) → leb (w .chip .operation .until) (w .chip .now) ≡ t → Waits (pick t (endedBy (w .chip .operation .work) w) w)
-  waits-picked true e = waits-by (w .chip .operation .work) refl
-  waits-picked false e = ap (λ (t : Bool). busy (w .chip .operation .work) && t) e ∙ and-false (busy (w .chip .operation .work))
+  waits-picked : (t : Bool) → leb (p .operation .until) (p .now) ≡ t → Waits (pick t (endedBy (p .operation .work) p) p)
+  waits-picked true e = waits-by (p .operation .work) refl
+  waits-picked false e = ap (λ (t : Bool). busy (p .operation .work) && t) e ∙ and-false (busy (p .operation .work))
 
-  waits-ended : Waits (ended w)
+  waits-ended : Waits (ended p)
   unfolding ended
-  waits-ended = waits-picked (leb (w .chip .operation .until) (w .chip .now)) refl
+  waits-ended = waits-picked (leb (p .operation .until) (p .now)) refl
 
-pub waits-arrived : (t : ℕ) (w : World) → Waits (arrived t w)
+pub waits-arrived : (t : ℕ) (p : Uc8253) → Waits (arrived t p)
 unfolding arrived
-waits-arrived t w = waits-ended (timed t w)
+waits-arrived t p = waits-ended (timed t p)

@@ -1,6 +1,8 @@
--- A data byte and a read: what the controller makes of them, seen as what the machine makes of them.
+-- A data byte and a read: what the controller makes of them, seen as what the machine makes of them. While an operation runs no byte is
+-- taken, so that no register and no plane changes under a refresh.
 use mathlib.Core.Path.{_≡_, refl, sym, ap, _∙_}
 use mathlib.Core.Bool.{Bool, true, false, not, _&&_, true≢false}
+use mathlib.Core.List.{List}
 use Prim.Native.Nat.{ℕ, zero, suc}
 use native.Mathlib.Omega.{arith}
 use lib.Dec.{eqb, ltb}
@@ -9,82 +11,122 @@ use Rattle.base.specs.Pick.{pick}
 use Rattle.base.proofs.Cases.{by-cases}
 use Rattle.command.specs.declared.kinds.Kind.{Kind}
 use Rattle.command.specs.declared.kinds.Kind.the-variants as kind
+use Rattle.command.specs.declared.kinds.Params.{Params}
 use Rattle.command.specs.declared.kinds.Params.the-variants as params
 use Rattle.command.specs.Kinds.{takesByte}
+use Rattle.registers.specs.declared.Registers.{Registers}
+use Rattle.registers.specs.Bytes.{byteOf}
 use Rattle.registers.specs.Flags.{bitSet}
 use Rattle.registers.specs.Written.{writtenOf}
+use Rattle.numbers.specs.Number.{mappingOf, panelNumbers}
+use Rattle.ram.specs.Write.{written}
 use Rattle.controller.specs.declared.Active.{Active}
 use Rattle.controller.specs.declared.Current.{Current}
 use Rattle.controller.specs.declared.Current.the-variants as current
+use Rattle.controller.specs.declared.Uc8253.{Uc8253}
+use Rattle.controller.specs.declared.uses.Use.{Use}
 use Rattle.controller.specs.declared.uses.Use.the-variants as use-for
-use Rattle.controller.specs.declared.reads.Read.{Read}
-use Rattle.controller.specs.declared.reads.Read.the-variants.{Byte, Nothing}
-use Rattle.controller.specs.World.{World, onChip}
-use Rattle.controller.specs.Setters.{withCurrent}
-use Rattle.controller.specs.Tell.{tell}
 use Rattle.controller.specs.DataByte as byte
 use Rattle.controller.specs.Reading as rd
 use Rattle.controller.specs.Counting.{own}
-use Rattle.walk.specs.Machine.{counted, softened, streamed, stored, took, tookBy, heard, given}
-use Rattle.walk.specs.Kept.{Hearing, ignored, under}
-use Rattle.walk.specs.Parts.{withHears}
-use Rattle.walk.proofs.Seen.{orderOf, single, over, hearingOf, apt, machineOf, view, looks}
+use Rattle.controller.specs.TurnedBack.{refreshRuns}
+use Rattle.controller.proofs.Quiet.{GuardedIn, taken-free}
+use Rattle.walk.specs.Machine.{counted, forward, softened, streamed, stored, took, tookBy, heard, given}
+use Rattle.walk.specs.Kept.{Machine, Hearing, ignored, under, Job}
+use Rattle.walk.specs.Parts.{withHears, withOld, withNew, withJob}
+use Rattle.walk.proofs.Commands.{idle-free}
+use Rattle.walk.proofs.Seen.{orderOf, single, over, hearingOf, apt, jobOf, seen, job-free}
 
-over-more : (a b : Bool) → a ≡ true → (a && b) ≡ false → b ≡ false
-over-more true b e q = q
-over-more false b e q = absurd (true≢false (sym e))
+module _ (a : Active) (b : ℕ) (p : Uc8253) (old new : List ℕ) where
+  -- what a use leaves of the record and the planes
+  abbrev used : Use → Machine
+  used u =
+      seen (byte.usedBy own u a b p) (pick (byte.forOld u) (byte.putAt (writtenOf (p .regs)) (a .cursor) b old) old)
+      (pick (byte.forNew u) (byte.putAt (writtenOf (p .regs)) (a .cursor) b new) new)
 
-module _ (a : Active) (b : ℕ) (w : World) (o : over a ≡ false) where
-  -- 10 and 13
-  view-older : eqb (a .command) 0x10 ≡ true → view (byte.olderByte (byte.moreOf a) b w) ≡ looks w (streamed b (orderOf a) (machineOf w))
-  unfolding byte.olderByte byte.pastWindow byte.pixelChip tell streamed
-  view-older e =
-      by-cases (ltb (writtenOf (w .chip .regs) .y1) (a .cursor .y))
-      (λ l. by-cases (a .«past_reported») (λ q. rw (l, q, o)) (λ q. rw (l, q, o)))
-      (λ l. rw (l, e, o))
+  module _ (o : over a ≡ false) where
+    -- a byte that the command takes: no refresh runs
+    module _ (free : refreshRuns (p .operation .work) ≡ false) where
+      same-job : (r : Registers) (o′ n′ : List ℕ)
+          → jobOf (p .operation .work) (p .operation .started) (p .operation .until) (p .waveform)
+          (panelNumbers (mappingOf (p .config .panel) r (p .config .variant)) o′ n′)
+          ≡ seen p old new .job
+      same-job r o′ n′ = job-free (p .operation .work) (p .operation .started) (p .operation .until) (p .waveform) _ _ free
 
-  view-newer : eqb (a .command) 0x10 ≡ false → view (byte.newerByte (byte.moreOf a) b w) ≡ looks w (streamed b (orderOf a) (machineOf w))
-  unfolding byte.newerByte byte.pastWindow byte.pixelChip tell streamed
-  view-newer e =
-      by-cases (ltb (writtenOf (w .chip .regs) .y1) (a .cursor .y))
-      (λ l. by-cases (a .«past_reported») (λ q. rw (l, q, o)) (λ q. rw (l, q, o)))
-      (λ l. rw (l, e, o))
+      -- 10 and 13
+      seen-older : eqb (a .command) 0x10 ≡ true → used use-for.Older ≡ streamed b (orderOf a) (seen p old new)
+      unfolding byte.pixelByte byte.pixelChip byte.putAt streamed
+      seen-older e =
+          let area = writtenOf (p .regs) in
+          by-cases (ltb (area .y1) (a .cursor .y))
+          (λ l. rw (l, o))
+          (λ l. rw (l, e, o)
+          (ap (λ (j : Job). withJob j
+          (withHears (under (forward area (orderOf a))) (withOld (written old area (a .cursor .x) (a .cursor .y) b) (seen p old new))))
+          (same-job (p .regs) _ new)))
 
-  -- a byte that the command takes
-  view-doing : view (byte.usedBy own (byte.doing (a .command) (a .received) b) a b w)
-      ≡ looks w (took (w .chip .config) b (orderOf a) (machineOf w))
-  unfolding byte.doing tell took softened stored
-  view-doing =
-      by-cases (eqb (a .command) 0x00)
-      (λ z. by-cases (eqb (a .received) 0)
-      (λ f. by-cases (bitSet b 0) (λ s. rw (eqb-true (a .command) 0 z, f, s, over-more (eqb (a .command) 0) (single (a .kind)) z o))
-      (λ s. rw (z, f, s, z)))
-      (λ f. rw (eqb-true (a .command) 0 z, f, over-more (eqb (a .command) 0) (single (a .kind)) z o)))
-      (λ z. by-cases (eqb (a .command) 0x07)
-      (λ v. by-cases (eqb b 0xA5) (λ h. rw (z, v, h, o)) (λ h. rw (z, v, h, o)))
-      (λ v. by-cases (eqb (a .command) 0x10)
-      (λ t. rw (z, v, t) (view-older t))
-      (λ t. by-cases (eqb (a .command) 0x13)
-      (λ n. rw (z, v, t, n) (view-newer t))
-      (λ n. rw (z, v, t, n, o)))))
+      seen-newer : eqb (a .command) 0x10 ≡ false → used use-for.Newer ≡ streamed b (orderOf a) (seen p old new)
+      unfolding byte.pixelByte byte.pixelChip byte.putAt streamed
+      seen-newer e =
+          let area = writtenOf (p .regs) in
+          by-cases (ltb (area .y1) (a .cursor .y))
+          (λ l. rw (l, o))
+          (λ l. rw (l, e, o)
+          (ap (λ (j : Job). withJob j
+          (withHears (under (forward area (orderOf a))) (withNew (written new area (a .cursor .x) (a .cursor .y) b) (seen p old new))))
+          (same-job (p .regs) old _)))
 
-  view-kind : (k : Kind)
-      → view (byte.usedBy own (byte.doneBy k (a .command) (a .received) b) a b w)
-      ≡ looks w (tookBy k (w .chip .config) b (orderOf a) (machineOf w))
-  view-kind (kind.Write n) = view-doing
-  view-kind kind.Read = rw o
-  view-kind (kind.Unsupported n) = rw o
-  view-kind kind.Unknown = rw o
+      -- a register or a table
+      seen-register : used use-for.Register ≡ stored b (orderOf a) (seen p old new)
+      unfolding stored
+      seen-register =
+          rw o
+          (ap (λ (j : Job). withJob j (stored b (orderOf a) (seen p old new)))
+          (same-job (byteOf (a .command) (a .received) b (p .regs)) old new))
 
-  -- beyond the largest count
-  view-purpose : (t x : Bool)
-      → view (byte.usedBy own (pick t (byte.doneBy (a .kind) (a .command) (a .received) b) (pick x use-for.Quiet use-for.Extra)) a b w)
-      ≡ looks w (pick t (tookBy (a .kind) (w .chip .config) b (orderOf a) (machineOf w))
-      (withHears (under (counted (orderOf a))) (machineOf w)))
-  unfolding tell
-  view-purpose true x = view-kind (a .kind)
-  view-purpose false true = rw o
-  view-purpose false false = rw o
+      zero-is-none : (k : ℕ) → eqb 0 k ≡ false → eqb (a .command) 0x00 ≡ true → eqb (a .command) k ≡ false
+      zero-is-none k n z = ap (λ (c : ℕ). eqb c k) (eqb-true (a .command) 0x00 z) ∙ n
+
+      seen-doing : used (byte.doing (a .command) (a .received) b) ≡ took (p .config) b (orderOf a) (seen p old new)
+      unfolding byte.doing took softened
+      seen-doing =
+          by-cases (eqb (a .command) 0x00)
+          (λ z.
+          let v = zero-is-none 0x07 refl z in
+          let t = zero-is-none 0x10 refl z in
+          let n = zero-is-none 0x13 refl z in
+          by-cases (eqb (a .received) 0)
+          (λ f. by-cases (bitSet b 0) (λ s. rw (z, f, s, v, t, n) seen-register) (λ s. rw (z, f, s, z)))
+          (λ f. rw (z, f, v, t, n) seen-register))
+          (λ z. by-cases (eqb (a .command) 0x07)
+          (λ v. by-cases (eqb b 0xA5) (λ h. rw (z, v, h, o)) (λ h. rw (z, v, h, o)))
+          (λ v. by-cases (eqb (a .command) 0x10)
+          (λ t. rw (z, v, t) (seen-older t))
+          (λ t. by-cases (eqb (a .command) 0x13)
+          (λ n. rw (z, v, t, n) (seen-newer t))
+          (λ n. rw (z, v, t, n) seen-register))))
+
+      seen-kind : (k : Kind) → used (byte.doneBy k (a .command) (a .received) b) ≡ tookBy k (p .config) b (orderOf a) (seen p old new)
+      seen-kind (kind.Write n) = seen-doing
+      seen-kind kind.Read = rw o
+      seen-kind (kind.Unsupported n) = rw o
+      seen-kind kind.Unknown = rw o
+
+    -- a read command and one that is not modelled only count it, whatever runs
+    seen-taken : (k : Kind) → ((n : Params) → k ≡ kind.Write n → refreshRuns (p .operation .work) ≡ false)
+        → used (byte.doneBy k (a .command) (a .received) b) ≡ tookBy k (p .config) b (orderOf a) (seen p old new)
+    seen-taken (kind.Write n) f = seen-kind (f n refl) (kind.Write n)
+    seen-taken kind.Read f = rw o
+    seen-taken (kind.Unsupported n) f = rw o
+    seen-taken kind.Unknown f = rw o
+
+    -- beyond the largest count
+    seen-purpose : (t x : Bool) → (t ≡ true → (n : Params) → a .kind ≡ kind.Write n → refreshRuns (p .operation .work) ≡ false)
+        → used (pick t (byte.doneBy (a .kind) (a .command) (a .received) b) (pick x use-for.Quiet use-for.Extra))
+        ≡ pick t (tookBy (a .kind) (p .config) b (orderOf a) (seen p old new)) (withHears (under (counted (orderOf a))) (seen p old new))
+    seen-purpose true x f = seen-taken (a .kind) (f refl)
+    seen-purpose false true f = rw o
+    seen-purpose false false f = rw o
 
 -- after a soft reset: it takes no byte more, and stays so
 takes-one : (k : Kind) (i : ℕ) → single k ≡ true → eqb i 0 ≡ false → takesByte k i ≡ false
@@ -105,69 +147,66 @@ had true true e q = absurd (true≢false (sym q))
 had true false e q = refl
 had false x e q = absurd (true≢false (sym e))
 
-module _ (a : Active) (b : ℕ) (w : World) (e : w .chip .stage .current ≡ current.Active a) (o : over a ≡ true) where
-  ignored-here : machineOf w .hears ≡ ignored
+module _ (a : Active) (b : ℕ) (p : Uc8253) (old new : List ℕ) (e : p .stage .current ≡ current.Active a) (o : over a ≡ true) where
+  ignored-here : seen p old new .hears ≡ ignored
   ignored-here = ap hearingOf e ∙ rw o
 
-  view-silent : (x : Bool) → view (byte.usedBy own (pick x use-for.Quiet use-for.Extra) a b w) ≡ view w
-  unfolding tell
-  view-silent true = ap (λ (h : Hearing). looks w (withHears h (machineOf w))) (silent ∙ sym ignored-here)
+  seen-silent : (x : Bool) → used a b p old new (pick x use-for.Quiet use-for.Extra) ≡ seen p old new
+  seen-silent true = ap (λ (h : Hearing). withHears h (seen p old new)) (silent ∙ sym ignored-here)
     where
       silent : hearingOf (current.Active (byte.moreOf a)) ≡ ignored
       silent = rw o
-  view-silent false = ap (λ (h : Hearing). looks w (withHears h (machineOf w))) (silent ∙ sym ignored-here)
+  seen-silent false = ap (λ (h : Hearing). withHears h (seen p old new)) (silent ∙ sym ignored-here)
     where
       silent : hearingOf (current.Active (byte.extraOf (byte.moreOf a))) ≡ ignored
       silent = rw o
 
-  view-over : apt (current.Active a) ≡ true
-      → view (byte.givenBy own (current.Active a) b w) ≡ looks w (heard (hearingOf (current.Active a)) (w .chip .config) b (machineOf w))
+  seen-over : apt (current.Active a) ≡ true
+      → used a b p old new (byte.purposeOf a b) ≡ heard (hearingOf (current.Active a)) (p .config) b (seen p old new)
   unfolding byte.purposeOf
-  view-over q =
-      ap (λ (t : Bool). view
-      ((byte.usedBy own)
-      (pick t (byte.doneBy (a .kind) (a .command) (a .received) b) (pick (a .«extra_reported») use-for.Quiet use-for.Extra)) a b w))
+  seen-over q =
+      ap (λ (t : Bool). used a b p old new
+      (pick t (byte.doneBy (a .kind) (a .command) (a .received) b) (pick (a .«extra_reported») use-for.Quiet use-for.Extra)))
       (takes-one (a .kind) (a .received) (over-single (eqb (a .command) 0) (single (a .kind)) o) (had (over a) (eqb (a .received) 0) o q))
-      ∙ view-silent (a .«extra_reported»)
-      ∙ ap (λ (t : Bool). looks w (heard (pick t ignored (under (orderOf a))) (w .chip .config) b (machineOf w))) (sym o)
+      ∙ seen-silent (a .«extra_reported»)
+      ∙ ap (λ (t : Bool). heard (pick t ignored (under (orderOf a))) (p .config) b (seen p old new)) (sym o)
 
-view-live : (a : Active) (b : ℕ) (w : World) → over a ≡ false
-    → view (byte.givenBy own (current.Active a) b w) ≡ looks w (heard (hearingOf (current.Active a)) (w .chip .config) b (machineOf w))
+seen-live : (a : Active) (b : ℕ) (p : Uc8253) (old new : List ℕ) → over a ≡ false
+    → (takesByte (a .kind) (a .received) ≡ true → (n : Params) → a .kind ≡ kind.Write n → refreshRuns (p .operation .work) ≡ false)
+    → used a b p old new (byte.purposeOf a b) ≡ heard (hearingOf (current.Active a)) (p .config) b (seen p old new)
 unfolding byte.purposeOf
-view-live a b w o =
-    view-purpose a b w o (takesByte (a .kind) (a .received)) (a .«extra_reported»)
-    ∙ ap (λ (t : Bool). looks w (heard (pick t ignored (under (orderOf a))) (w .chip .config) b (machineOf w))) (sym o)
+seen-live a b p old new o f =
+    seen-purpose a b p old new o (takesByte (a .kind) (a .received)) (a .«extra_reported») f
+    ∙ ap (λ (t : Bool). heard (pick t ignored (under (orderOf a))) (p .config) b (seen p old new)) (sym o)
 
-view-given : (x : Current) (b : ℕ) (w : World) → w .chip .stage .current ≡ x → apt x ≡ true
-    → view (byte.givenBy own x b w) ≡ looks w (heard (hearingOf x) (w .chip .config) b (machineOf w))
-unfolding tell
-view-given current.Idle b w e q = refl
-view-given current.Ignoring b w e q = refl
-view-given (current.Active a) b w e q = by-cases (over a) (λ o. view-over a b w e o q) (λ o. view-live a b w o)
+module _ (b : ℕ) (p : Uc8253) (old new : List ℕ) (g : GuardedIn p) where
+  seen-given : (x : Current) → p .stage .current ≡ x → apt x ≡ true
+      → seen (byte.givenBy own x b p) (byte.takenBy byte.forOld x b (writtenOf (p .regs)) old) (byte.takenBy byte.forNew x b (writtenOf (p .regs)) new)
+      ≡ heard (hearingOf x) (p .config) b (seen p old new)
+  seen-given current.Idle e q = refl
+  seen-given current.Ignoring e q = refl
+  seen-given (current.Active a) e q =
+      by-cases (over a) (λ o. seen-over a b p old new e o q)
+      (λ o. seen-live a b p old new o (λ t n k. idle-free (p .operation .work) (taken-free n a p g e k t)))
 
-pub view-data : (b : ℕ) (w : World) → apt (w .chip .stage .current) ≡ true
-    → view (byte.dataByte own b w) ≡ looks w (given (w .chip .config) b (machineOf w))
-unfolding byte.dataByte given
-view-data b w q = view-given (w .chip .stage .current) b w refl q
+  pub seen-data : apt (p .stage .current) ≡ true
+      → seen (byte.dataByte own b p) (byte.planeByte byte.forOld b p old) (byte.planeByte byte.forNew b p new) ≡ given (p .config) b (seen p old new)
+  unfolding byte.dataByte byte.planeByte given
+  seen-data q = seen-given (p .stage .current) refl q
 
 -- a read changes nothing that the machine keeps
-module _ (a : Active) (w : World) (e : w .chip .stage .current ≡ current.Active a) where
-  view-missed : (r : Read) → view (rd.missedBy r a (onChip (withCurrent (current.Active (rd.readMore a))) w)) ≡ view w
-  unfolding tell
-  view-missed (Byte n) = rw e
-  view-missed Nothing = by-cases (eqb (a .read) 0) (λ q. rw (e, q)) (λ q. rw (e, q))
+module _ (p : Uc8253) (old new : List ℕ) where
+  seen-after : (a : Active) → p .stage .current ≡ current.Active a → (k : Kind) → seen (rd.afterRead k a p) old new ≡ seen p old new
+  seen-after a e (kind.Write n) = refl
+  seen-after a e kind.Read = rw e
+  seen-after a e (kind.Unsupported n) = refl
+  seen-after a e kind.Unknown = refl
 
-  view-after : (k : Kind) → view (rd.afterRead k a w) ≡ view w
-  view-after (kind.Write n) = refl
-  view-after kind.Read = view-missed (rd.drivenByte (w .chip .config .variant) (w .chip) (a .command) (a .read))
-  view-after (kind.Unsupported n) = refl
-  view-after kind.Unknown = refl
+  seen-read : (x : Current) → p .stage .current ≡ x → seen (rd.readingBy x p) old new ≡ seen p old new
+  seen-read current.Idle e = refl
+  seen-read current.Ignoring e = refl
+  seen-read (current.Active a) e = seen-after a e (a .kind)
 
-view-read : (x : Current) (w : World) → w .chip .stage .current ≡ x → view (rd.readingBy x w) ≡ view w
-view-read current.Idle w e = refl
-view-read current.Ignoring w e = refl
-view-read (current.Active a) w e = view-after a w e (a .kind)
-
-pub view-reading : (w : World) → view (rd.reading w) ≡ view w
-unfolding rd.reading
-view-reading w = view-read (w .chip .stage .current) w refl
+  pub seen-reading : seen (rd.reading p) old new ≡ seen p old new
+  unfolding rd.reading
+  seen-reading = seen-read (p .stage .current) refl

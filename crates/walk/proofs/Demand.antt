@@ -15,24 +15,25 @@ use Rattle.glass.proofs.WalkLaws.{walk-append}
 use Rattle.glass.proofs.Coalescence.{coalescence}
 use Rattle.pixels.proofs.StateLaws.{states-in-range}
 use Rattle.controller.specs.World.{World, Buffers, world}
-use Rattle.controller.specs.Arrives.{arrived}
 use Rattle.controller.specs.TurnedBack.{makingRefused}
-use Rattle.controller.specs.Calls.{takeCall, made, firstChip, firstBuffers}
+use Rattle.controller.specs.Calls.{made, firstChip, firstBuffers}
 use Rattle.controller.specs.Sound.{Sound}
-use Rattle.controller.proofs.Sound.{sound-made, sound-arrived, sound-command, sound-data}
-use Rattle.controller.proofs.Sound.{sound-reading, sound-reset, sound-ruled, sound-take, never-turned, home}
+use Rattle.controller.specs.Counting.{own}
+use Rattle.controller.proofs.Keeps.{config-after}
+use Rattle.controller.proofs.Quiet.{GuardedIn, guarded-after, guarded-made}
+use Rattle.controller.proofs.Sound.{sound-made, sound-done}
+use Rattle.controller.proofs.TurnedAway.{doneTo}
 use Rattle.walk.specs.Machine.{Fed, fresh, fed1, framesFed1, framesAt, ran, framesFed, stepped}
-use Rattle.controller.specs.Ask.{Ask, command, datum, reading, advance, reset, vcomRule, taking, askBusy, askDeadline, askBit, askRow, askPicture}
 use Rattle.walk.specs.Kept.{Machine}
-use Rattle.walk.specs.Calls.{Call, turned, next, after, OwnFor, OwnBuffers, IsByte, Bytes}
+use Rattle.walk.specs.Calls.{Call, turned, next, after, OwnFor, OwnBuffers, Bytes}
 use Rattle.walk.specs.Calls.{fedAt, fedBy, start, place, stateAt, framesBetween, Demand3}
-use Rattle.controller.specs.Ask.{refusedBy, writes}
-use Rattle.walk.proofs.Seen.{machineOf, View, Calm}
+use Rattle.controller.specs.Ask.{Ask, IsByte, refusedBy, writes}
+use Rattle.walk.proofs.Seen.{machineOf, Calm}
 use Rattle.walk.proofs.Calmness.{calm-stepped, calm-fresh}
-use Rattle.walk.proofs.Aptness.{Apt}
-use Rattle.walk.proofs.Follow.{moved, apt-moved, view-moved}
+use Rattle.walk.proofs.Aptness.{Apt, apt-after}
+use Rattle.walk.proofs.Follow.{machine-done, glass-done}
 use Rattle.walk.proofs.Pixel.{stepped-serves, states-at}
-use Rattle.walk.proofs.Lending.{Gone, back, on, gone, states-long, panelled, serves, take-accepted, sound-accepted, pixels, roomy}
+use Rattle.walk.proofs.Lending.{Gone, back, on, gone, states-long, serves, sound-accepted, pixels, roomy}
 use Rattle.walk.proofs.Lending.{lendingOf, lending, plain, plain-byte, plain-rest, lent-turned, lent-own, Lendable}
 
 -- ---- the calls before a place, and those from it on
@@ -96,50 +97,26 @@ pub start-machine : (g : Uc8253Config) (b : Buffers) → makingRefused g b ≡ 0
 unfolding firstChip firstBuffers fresh
 start-machine g b e = rw (made-is g b e)
 
-start-apt : (g : Uc8253Config) (b : Buffers) → makingRefused g b ≡ 0 → Apt (start g b)
+start-apt : (g : Uc8253Config) (b : Buffers) → makingRefused g b ≡ 0 → Apt (start g b .chip)
 unfolding firstChip
 start-apt g b e = rw (made-is g b e)
-
-taken-is : (w : World) → Sound w → takeCall w ≡ moved taking w
-unfolding takeCall
-taken-is w s = rw (take-accepted home w s)
-
-sound-moved : (a : Ask) (w : World) → IsByte a → Sound w → Sound (moved a w)
-sound-moved (command t c) w b s = sound-command c (arrived t w) b (sound-arrived t w s)
-sound-moved (datum t x) w b s = sound-data x (arrived t w) b (sound-arrived t w s)
-sound-moved (reading t) w b s = sound-reading (arrived t w) (sound-arrived t w s)
-sound-moved (advance t) w b s = sound-arrived t w s
-sound-moved (reset t asserted) w b s = sound-reset asserted (arrived t w) (sound-arrived t w s)
-sound-moved (vcomRule t x) w b s = sound-ruled x (arrived t w) (sound-arrived t w s)
-sound-moved taking w b s = subst (λ (v : World). Sound v) (taken-is w s) (sound-take w s)
-sound-moved (askBusy t) w b s = s
-sound-moved askDeadline w b s = s
-sound-moved (askBit older x y) w b s = s
-sound-moved (askRow y) w b s = s
-sound-moved (askPicture top wide) w b s = s
 
 -- ---- what holds at each place
 pub record Good (g : Uc8253Config) (at : World) : Type 0 where
   pub config : at .chip .config ≡ g
   pub sound : Sound at
   pub calm : Calm (machineOf at)
-  pub fit : Apt at
+  pub fit : Apt (at .chip)
+  pub guarded : GuardedIn (at .chip)
 
--- an accepted call
-moved-machine : (a : Ask) (at : World) → Sound at → Calm (machineOf at) → Apt at
-    → machineOf (moved a at) ≡ stepped (at .chip .config) (machineOf at) a .machine
-moved-machine a at s c q = ap (λ (v : View). v .machine) (view-moved a at c q (panelled at s))
-
-moved-config : (a : Ask) (at : World) → Sound at → Calm (machineOf at) → Apt at → moved a at .chip .config ≡ at .chip .config
-moved-config a at s c q = ap (λ (v : View). v .config) (view-moved a at c q (panelled at s))
-
-moved-state : (a : Ask) (at : World) (p : ℕ) → Sound at → Calm (machineOf at) → Apt at
+-- an accepted call: the state of a pixel walks
+done-state : (a : Ask) (at : World) (p : ℕ) → Sound at
     → p < at .chip .config .panel .sources * at .chip .config .panel .gates
-    → stateAt p (moved a at)
+    → stateAt p (doneTo own a at)
     ≡ pos (walk (at .chip .config .optics .«full_swing») (up (stateAt p at)) (framesAt (at .chip .config) (machineOf at) a p))
 unfolding stateAt framesAt
-moved-state a at p s c q h =
-    ap (λ (v : View). getD (v .states) p (pos 0)) (view-moved a at c q (panelled at s))
+done-state a at p s h =
+    ap (λ (ss : List ℤ). getD ss p (pos 0)) (glass-done a at)
     ∙ states-at (at .chip .config .optics .«full_swing») (at .chip .config .optics .«positive_drives_black») (at .lent .states) p
     (subst (λ (n : ℕ). p < n) (sym (states-long at s)) h)
     (stepped (at .chip .config) (machineOf at) a .ended) (s .states)
@@ -160,29 +137,32 @@ state-still at p s h =
     states-in-range (at .chip .config .optics .«full_swing») (at .lent .states) (s .states) p
     (subst (λ (n : ℕ). p < n) (sym (states-long at s)) h) .is
 
-along-here : (at : World) (c : Call) → Sound at → Calm (machineOf at) → Apt at → IsByte (c .ask) → Gone at c → Along (at .chip .config) at c
+along-here : (at : World) (c : Call) → Good (at .chip .config) at → IsByte (c .ask) → Gone at c → Along (at .chip .config) at c
 unfolding fed1 framesFed1
-along-here at c s calm q byte (back b n) = record {
-  good = subst (λ (w : World). Good (at .chip .config) w) (sym n) (record { config = refl; sound = s; calm = calm; fit = q });
+along-here at c good byte (back b n) = record {
+  good = subst (λ (w : World). Good (at .chip .config) w) (sym n) good;
   machine = ap machineOf n ∙ rw b;
-  state = λ p h. ap (stateAt p) n ∙ rw b (state-still at p s h);
+  state = λ p h. ap (stateAt p) n ∙ rw b (state-still at p (good .sound) h);
 }
-along-here at c s calm q byte (on b n) = record {
-  good = subst (λ (w : World). Good (at .chip .config) w) (sym n) (record {
-    config = moved-config (c .ask) at s calm q;
-    sound = sound-moved (c .ask) at byte s;
-    calm =
-        subst (λ (m : Machine). Calm m) (sym (moved-machine (c .ask) at s calm q))
-        (calm-stepped (at .chip .config) (machineOf at) (c .ask) calm);
-    fit = apt-moved (c .ask) at q;
-  });
-  machine = ap machineOf n ∙ rw b (moved-machine (c .ask) at s calm q);
-  state = λ p h. ap (stateAt p) n ∙ rw b (moved-state (c .ask) at p s calm q h);
-}
+along-here at c good byte (on b n) =
+    let s = good .sound in
+    let m = machine-done at (good .calm) (good .fit) (s .chip) (good .guarded) (c .ask) in
+    record {
+      good = subst (λ (w : World). Good (at .chip .config) w) (sym n) (record {
+        config = config-after (c .ask) (at .chip);
+        sound = sound-done (c .ask) at byte s;
+        calm = subst (λ (x : Machine). Calm x) (sym m) (calm-stepped (at .chip .config) (machineOf at) (c .ask) (good .calm));
+        fit = apt-after (c .ask) (at .chip) (good .fit);
+        guarded = guarded-after (c .ask) (at .chip) (good .guarded);
+      });
+      machine = ap machineOf n ∙ rw b m;
+      state = λ p h. ap (stateAt p) n ∙ rw b (done-state (c .ask) at p s h);
+    }
 
 pub along : (g : Uc8253Config) (at : World) (c : Call) → Good g at → IsByte (c .ask) → OwnFor (writes (c .ask)) at c → Along g at c
 along g at c good byte own =
-    subst (λ (x : Uc8253Config). Along x at c) (good .config) (along-here at c (good .sound) (good .calm) (good .fit) byte (gone at c own))
+    subst (λ (x : Uc8253Config). Along x at c) (good .config)
+    (along-here at c (subst (λ (x : Uc8253Config). Good x at) (sym (good .config)) good) byte (gone at c own))
 
 -- ---- the list: the machine follows, and the state walks
 pub after-good : (g : Uc8253Config) (at : World) (cs : List Call) → Good g at → Bytes cs → OwnBuffers at cs → Good g (after at cs)
@@ -220,6 +200,7 @@ start-good g b gray e = record {
   sound = sound-made g b gray e;
   calm = subst (λ (m : Machine). Calm m) (sym (start-machine g b e)) (calm-fresh g);
   fit = start-apt g b e;
+  guarded = subst (λ (w : World). GuardedIn (w .chip)) (sym (made-is g b e)) (guarded-made g);
 }
 
 pub demand3 : Demand3
@@ -254,7 +235,7 @@ pub accepts : (g : Uc8253Config) (at : World) (c : Call) → Good g at → c .le
 unfolding turned
 accepts g at c good l r =
     ap (λ (x : Buffers). not (eqb (refusedBy (c .ask) (world (at .chip) x)) 0)) l
-    ∙ ap (λ (n : ℕ). not (eqb n 0)) (sound-accepted home never-turned (c .ask) at (good .sound)
+    ∙ ap (λ (n : ℕ). not (eqb n 0)) (sound-accepted (c .ask) at (good .sound)
     (ap (λ (x : Uc8253Config). roomy (pixels x) (c .ask)) (good .config) ∙ r))
 
 pub never-refused : (g : Uc8253Config) (b : Buffers) (cs : List Call) → g .optics .«initial_gray» < 256 → makingRefused g b ≡ 0 → Bytes cs

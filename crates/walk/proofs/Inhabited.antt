@@ -1,13 +1,13 @@
 -- What the table of acceptance supposes is met on the panel of one pixel: the checker runs its machine, and the controller follows that.
 use mathlib.Core.Path.{_≡_, refl, sym, ap, subst, _∙_}
-use mathlib.Core.Bool.{Bool, true, false, not, true≢false}
+use mathlib.Core.Bool.{true, false, true≢false}
 use mathlib.Core.List.{List, [], _∷_, map}
 use Prim.Native.Nat.{ℕ, _+_, _*_, _<_}
 use native.Mathlib.Omega.{arith}
 use lib.Dec.{lit<, lit≤}
 use lib.IntN.{pos}
 use Rattle.base.specs.Integer.{up}
-use Rattle.base.specs.Pick.{pick}
+use Rattle.base.proofs.Cases.{by-cases}
 use Rattle.clock.specs.Clock.{billion}
 use Rattle.clock.proofs.ClockLaws.{rate-good}
 use Rattle.config.specs.declared.Uc8253Config.{Uc8253Config}
@@ -15,6 +15,7 @@ use Rattle.config.specs.declared.Variant.{Variant}
 use Rattle.config.specs.declared.Variant.the-variants as variant
 use Rattle.glass.specs.Walk.{hold, step, walk}
 use Rattle.registers.specs.Luts.{resetLuts}
+use Rattle.numbers.specs.Number.{panelNumbers}
 use Rattle.waveform.specs.declared.Waveform.{Waveform}
 use Rattle.controller.specs.declared.Power.{Power}
 use Rattle.controller.specs.declared.Power.the-variants as power
@@ -24,33 +25,31 @@ use Rattle.controller.specs.declared.Work.the-variants as work
 use Rattle.controller.specs.World.{World, Buffers, world}
 use Rattle.controller.specs.Command.{inReset, asleep}
 use Rattle.controller.specs.TurnedBack.{makingRefused}
-use Rattle.controller.specs.Calls.{resetCall, made, firstChip}
+use Rattle.controller.specs.Refresh.{mappingNow}
+use Rattle.controller.specs.Glass.{numbersNow}
+use Rattle.controller.specs.Calls.{made, firstChip}
 use Rattle.controller.specs.Sound.{Sound}
 use Rattle.controller.proofs.Sound.{never-turned}
-use Rattle.controller.specs.Ask.{Ask, did, writes}
-use Rattle.controller.specs.Counting.{own}
+use Rattle.controller.specs.Ask.{Ask, reset, did, writes}
 use Rattle.walk.specs.Machine.{Fed, fresh, ran, framesFed}
 use Rattle.walk.specs.Kept.{Noted, drives, Job, until, Machine}
 use Rattle.walk.specs.Calls.{next, result, after, Call, start, stateAt}
 use Rattle.walk.specs.OnePixel.{bench, refreshCalls, afterCalls, feed, slow, refreshing, driving, noted3}
 use Rattle.walk.specs.Table.{Refreshes, Drives, ThreeIn, ThreeNoted, lift, RefreshMet, Made8279d}
 use Rattle.walk.proofs.Seen.{jobOf, machineOf}
-use Rattle.walk.proofs.Lending.{Spares, spares, lendingOf, lending, plain, plain-byte, plain-rest, plain-back, pixels, roomy, bytes-lending, lent-own, Lent}
+use Rattle.walk.proofs.Lending.{spares, lendingOf, lending, plain, plain-byte, plain-rest, plain-back, pixels, roomy, bytes-lending, lent-own, Lent}
 use Rattle.walk.proofs.Demand.{made-is, start-machine, start-good, Good, accepts}
 use Rattle.walk.proofs.Demand.{along, after-good, after-machine, after-state, lendable}
 use Rattle.walk.proofs.OnePixel.{all, taken-by, black-by}
 use Rattle.walk.proofs.TwoDriven.{state-two}
 
 -- ---- accepted calls, one on what the other left
--- what a call does, whether or not it may change a lent entry
-did-whole : (t : Bool) (a : Ask) (w : World) → Spares t a w → world (did a w .chip) (pick (not t) (w .lent) (did a w .lent)) ≡ did a w
-did-whole true a w s = refl
-did-whole false a w s = ap (λ (b : Buffers). world (did a w .chip) b) (sym s)
-
 module _ (g : Uc8253Config) where
   next-did : (at : World) (a : Ask) → Good g at → roomy (pixels g) a ≡ true → next at (lendingOf at (feed a)) ≡ did a at
   unfolding next result
-  next-did at a good r = rw (accepts g at (lendingOf at (feed a)) good refl r) (did-whole (writes a) a at (spares a at))
+  next-did at a good r =
+      rw (accepts g at (lendingOf at (feed a)) good refl r)
+      (by-cases (writes a) (λ y. rw y) (λ n. rw n (ap (world (did a at .chip)) (sym (spares a at n)))))
 
   after-did : (asks : List Ask) (at : World) → Good g at → plain (pixels g) (map feed asks) ≡ true
       → after at (lending at (map feed asks)) ≡ afterCalls asks at
@@ -108,13 +107,14 @@ record Same (w : World) (r : Noted) : Type 0 where
   refreshes : Refreshes w refresh
   since : w .chip .operation .started ≡ r .since
   wave : w .chip .waveform ≡ r .wave
-  numbers : w .lent .numbers ≡ r .numbers
+  numbers : numbersNow (w .chip) (w .lent .old) (w .lent .new) ≡ r .numbers
 
 module _ (w : World) (s : Sound w) (r : Noted) (end : ℕ) (h : Drives (w .chip .config) (machineOf w) r end) (wakes : machineOf w .sleep ≡ false) where
   abbrev jobBy : Work → Job
-  jobBy x = jobOf x (w .chip .operation .started) (w .chip .operation .until) (w .chip .waveform) (w .lent .numbers)
+  jobBy x = jobOf x (w .chip .operation .started) (w .chip .operation .until) (w .chip .waveform) (panelNumbers (mappingNow (w .chip)) (w .lent .old) (w .lent .new))
 
   same-work : (x : Work) → w .chip .operation .work ≡ x → jobBy x ≡ until end (drives r) → Same w r
+  unfolding numbersNow
   same-work work.Nothing e j = let z : _≡_ {A = ℕ} 0 1 = cc in absurd (omega arith)
   same-work work.PowerOn e j = let z : _≡_ {A = ℕ} 0 1 = cc in absurd (omega arith)
   same-work work.PowerOff e j = let z : _≡_ {A = ℕ} 0 1 = cc in absurd (omega arith)
@@ -125,7 +125,7 @@ module _ (w : World) (s : Sound w) (r : Noted) (end : ℕ) (h : Drives (w .chip 
       let since : w .chip .operation .started ≡ r .since = cc in
       let till : w .chip .operation .until ≡ end = cc in
       let wave : w .chip .waveform ≡ r .wave = cc in
-      let numbers : w .lent .numbers ≡ r .numbers = cc in
+      let numbers : panelNumbers (mappingNow (w .chip)) (w .lent .old) (w .lent .new) ≡ r .numbers = cc in
       record {
         refresh = x;
         refreshes = record {
@@ -189,7 +189,9 @@ is-driving = calls-machine g bench gray (taken variant.Uc8253) refreshCalls fine
 
 found : Same refreshing noted3
 found =
-    same refreshing (good .sound) noted3 5_100 (rw (good .config, is-driving) drive-met)
+    same refreshing (good .sound) noted3 5_100
+    (subst (λ (m : Machine). Drives (refreshing .chip .config) m noted3 5_100) (sym is-driving)
+    (subst (λ (c : Uc8253Config). Drives c driving noted3 5_100) (sym (good .config)) drive-met))
     (ap (λ (m : Machine). m .sleep) is-driving ∙ awake)
 
 three-in : ThreeIn refreshing 0 lift lift lift
@@ -205,10 +207,10 @@ state-before =
     ∙ (λ i. pos (walk 100_000_000 (up (black-by variant.Uc8253 1_000 billion refl (rate-good billion (lit≤ tt) (lit≤ tt)) i)) (none-yet i)))
 
 -- two frames from 0
-pub state-after : stateAt 0 (resetCall own 3_099 true refreshing) ≡ pos 28_000_000
+pub state-after : stateAt 0 (did (reset 3_099 true) refreshing) ≡ pos 28_000_000
 unfolding step hold slow noted3
 state-after =
-    ap (λ (t : ℕ). stateAt 0 (resetCall own (t + 2_999) true refreshing)) (sym (found .since))
+    ap (λ (t : ℕ). stateAt 0 (did (reset (t + 2_999) true) refreshing)) (sym (found .since))
     ∙ state-two refreshing (found .refresh) (found .refreshes) 0 lift lift lift three-in
     ∙ (λ i. pos (walk (good .config i .optics .«full_swing») (up (state-before i)) (lift ∷ lift ∷ [])))
 

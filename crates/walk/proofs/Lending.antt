@@ -7,81 +7,62 @@ use lib.Dec.{eqb, ltb}
 use lib.ListN.{length}
 use borrow.Author.Tests.{eqb-true, ltb-true}
 use Rattle.base.specs.Pick.{pick}
-use Rattle.base.proofs.Cases.{by-cases}
+use Rattle.base.proofs.Cases.{by-cases, both}
 use Rattle.config.specs.declared.Uc8253Config.{Uc8253Config}
-use Rattle.config.proofs.RefusalLaws.{accepted}
+use Rattle.numbers.specs.Number.{panelNumbers}
 use Rattle.controller.specs.declared.Uc8253.{Uc8253}
 use Rattle.controller.specs.declared.Work.{Work}
 use Rattle.controller.specs.declared.Work.the-variants as work
 use Rattle.controller.specs.World.{World, Buffers, world}
-use Rattle.controller.specs.TurnedBack.{foreignRecord, turnedBack, lengthsFit, lentFits, lentRefused, refreshRuns, makingRefused}
+use Rattle.controller.specs.TurnedBack.{foreignRecord, turnedBack, lengthsFit, lentFits, lentRefused, makingRefused}
 use Rattle.controller.specs.Calls as calls
 use Rattle.controller.specs.Sound.{Sound}
-use Rattle.controller.proofs.TurnedAway.{did-no}
+use Rattle.controller.specs.Refresh.{mappingNow}
+use Rattle.controller.specs.Glass.{numbersNow}
+use Rattle.controller.specs.Counting.{own}
+use Rattle.controller.proofs.TurnedAway.{doneTo, did-no, did-yes}
+use Rattle.controller.proofs.Glass.{numbers-length, numbers-known}
+use Rattle.controller.proofs.Sound.{home, never-turned}
 use Rattle.walk.specs.Machine.{Fed}
 use Rattle.controller.specs.Ask.{Ask, command, datum, reading, advance, reset, vcomRule, taking, askBusy, askDeadline, askBit, askRow, askPicture}
-use Rattle.walk.specs.Calls.{Call, handed, result, turned, next, OwnFor, OwnBuffers, IsByte, Bytes, fedAt, fedBy, start}
-use Rattle.controller.specs.Ask.{did, refusedBy, writes}
-use Rattle.walk.proofs.Seen.{jobOf, machineOf, Panelled}
-use Rattle.walk.proofs.Follow.{moved}
+use Rattle.walk.specs.Calls.{Call, handed, result, turned, next, OwnFor, OwnBuffers, Bytes, fedAt, fedBy, start}
+use Rattle.controller.specs.Ask.{IsByte, recordAfter, oldAfter, newAfter, rowsAfter, lentAfter, didBy, did, refusedBy, writes}
+use Rattle.walk.proofs.Seen.{jobOf, machineOf}
 use Rattle.walk.proofs.Pixel.{ServesJob}
 
--- ---- what the refusal's number decides
-pub did-yes : (a : Ask) (w : World) → eqb (refusedBy a w) 0 ≡ true → did a w ≡ moved a w
-unfolding calls.called calls.takeCall
-did-yes (command t c) w e = rw e
-did-yes (datum t b) w e = rw e
-did-yes (reading t) w e = rw e
-did-yes (advance t) w e = rw e
-did-yes (reset t asserted) w e = rw e
-did-yes (vcomRule t x) w e = rw e
-did-yes taking w e = rw e
-did-yes (askBusy t) w e = refl
-did-yes askDeadline w e = refl
-did-yes (askBit older x y) w e = refl
-did-yes (askRow y) w e = refl
-did-yes (askPicture top wide) w e = refl
+-- ---- what is lent to a call that changes no entry of it
+-- taking the rows and the questions look at the record alone
+spared : (a : Ask) (w : World) → writes a ≡ false → lentAfter own a (w .chip) (w .lent) ≡ w .lent
+unfolding lentAfter oldAfter newAfter rowsAfter
+spared (command t c) w e = absurd (true≢false e)
+spared (datum t b) w e = absurd (true≢false e)
+spared (reading t) w e = absurd (true≢false e)
+spared (advance t) w e = absurd (true≢false e)
+spared (reset t asserted) w e = absurd (true≢false e)
+spared (vcomRule t x) w e = absurd (true≢false e)
+spared taking w e = refl
+spared (askBusy t) w e = refl
+spared askDeadline w e = refl
+spared (askBit older x y) w e = refl
+spared (askRow y) w e = refl
+spared (askPicture top wide) w e = refl
 
--- taking the rows and the questions change no lent entry, and look at the record alone
-abbrev pub Spares : Bool → Ask → World → Type 0
-Spares true a w = Unit {0}
-Spares false a w = did a w .lent ≡ w .lent
-
-pub spares : (a : Ask) (w : World) → Spares (writes a) a w
-unfolding calls.takeCall
-spares (command t c) w = tt
-spares (datum t b) w = tt
-spares (reading t) w = tt
-spares (advance t) w = tt
-spares (reset t asserted) w = tt
-spares (vcomRule t x) w = tt
-spares taking w = by-cases (eqb (calls.takingRefused (w .chip) (w .lent .rows)) 0) (λ e. rw e) (λ e. rw e)
-spares (askBusy t) w = refl
-spares askDeadline w = refl
-spares (askBit older x y) w = refl
-spares (askRow y) w = refl
-spares (askPicture top wide) w = refl
+pub spares : (a : Ask) (w : World) → writes a ≡ false → did a w .lent ≡ w .lent
+unfolding didBy
+spares a w e = both (λ (v : World). v .lent ≡ w .lent) (eqb (refusedBy a w) 0) (spared a w e) refl
 
 -- the place after an accepted call
 place-on : (a : Ask) (at : World) (l : Buffers) (t : Bool) → t ≡ false → (writes a ≡ true → l ≡ at .lent)
-    → world (moved a (world (at .chip) l) .chip) (pick (t || not (writes a)) (at .lent) (moved a (world (at .chip) l) .lent)) ≡ moved a at
-place-on (command t c) at l q e own = rw (e, own refl)
-place-on (datum t b) at l q e own = rw (e, own refl)
-place-on (reading t) at l q e own = rw (e, own refl)
-place-on (advance t) at l q e own = rw (e, own refl)
-place-on (reset t asserted) at l q e own = rw (e, own refl)
-place-on (vcomRule t x) at l q e own = rw (e, own refl)
-place-on taking at l q e own = rw e
-place-on (askBusy t) at l q e own = rw e
-place-on askDeadline at l q e own = rw e
-place-on (askBit older x y) at l q e own = rw e
-place-on (askRow y) at l q e own = rw e
-place-on (askPicture top wide) at l q e own = rw e
+    → world (recordAfter own a (at .chip)) (pick (t || not (writes a)) (at .lent) (lentAfter own a (at .chip) l)) ≡ doneTo own a at
+place-on a at l t e lent =
+    by-cases (writes a)
+    (λ y. rw (e, y, lent y))
+    (λ n. rw (e, n) (ap (world (recordAfter own a (at .chip))) (sym (spared a at n))))
 
 -- ---- a call is turned back or accepted
 pub data Gone (at : World) (c : Call) : Type 0 where
   back : turned at c ≡ true → next at c ≡ at → Gone at c
-  on : turned at c ≡ false → next at c ≡ moved (c .ask) at → Gone at c
+  on : turned at c ≡ false → next at c ≡ doneTo own (c .ask) at → Gone at c
 
 turned-no : (at : World) (c : Call) → eqb (refusedBy (c .ask) (handed at c)) 0 ≡ true → turned at c ≡ false
 unfolding turned
@@ -92,7 +73,7 @@ unfolding turned
 turned-yes at c e = rw e
 
 next-on : (at : World) (c : Call) → eqb (refusedBy (c .ask) (handed at c)) 0 ≡ true → (writes (c .ask) ≡ true → c .lent ≡ at .lent)
-    → next at c ≡ moved (c .ask) at
+    → next at c ≡ doneTo own (c .ask) at
 unfolding next result
 next-on at c e own =
     ap (λ (w : World). world (w .chip) (pick (turned at c || not (writes (c .ask))) (at .lent) (w .lent)))
@@ -153,7 +134,6 @@ pub record Long (w : World) : Type 0 where
   pub old : eqb (length (w .lent .old)) 60000 ≡ true
   pub new : eqb (length (w .lent .new)) 60000 ≡ true
   pub states : eqb (length (w .lent .states)) (w .chip .config .panel .sources * w .chip .config .panel .gates) ≡ true
-  pub numbers : eqb (length (w .lent .numbers)) (w .chip .config .panel .sources * w .chip .config .panel .gates) ≡ true
   pub picture : eqb (length (w .lent .picture)) (w .chip .config .panel .sources * w .chip .config .panel .gates) ≡ true
   pub rows : eqb (length (w .lent .rows)) 5120 ≡ true
 
@@ -164,74 +144,65 @@ lengths w e0 =
     let e1 = and-right (eqb (length (w .lent .old)) 60000) _ e0 in
     let e2 = and-right (eqb (length (w .lent .new)) 60000) _ e1 in
     let e3 = and-right (eqb (length (w .lent .states)) n) _ e2 in
-    let e4 = and-right (eqb (length (w .lent .numbers)) n) _ e3 in
-    let e5 = and-right (eqb (length (w .lent .picture)) n) _ e4 in
+    let e4 = and-right (eqb (length (w .lent .picture)) n) _ e3 in
     record {
       old = and-left (eqb (length (w .lent .old)) 60000) _ e0;
       new = and-left (eqb (length (w .lent .new)) 60000) _ e1;
       states = and-left (eqb (length (w .lent .states)) n) _ e2;
-      numbers = and-left (eqb (length (w .lent .numbers)) n) _ e3;
-      picture = and-left (eqb (length (w .lent .picture)) n) _ e4;
-      rows = e5;
+      picture = and-left (eqb (length (w .lent .picture)) n) _ e3;
+      rows = e4;
     }
 
 pub states-long : (w : World) → Sound w → length (w .lent .states) ≡ w .chip .config .panel .sources * w .chip .config .panel .gates
 states-long w s = eqb-true _ _ (lengths w (s .fits) .states)
 
-pub panelled : (w : World) → Sound w → Panelled w
-panelled w s = record {
-  wide = accepted (w .chip .config) (s .config) .sources-least;
-  long = eqb-true _ _ (lengths w (s .fits) .numbers);
-}
-
 module _ (w : World) (s : Sound w) where
-  serves-work : (x : Work) → w .chip .operation .work ≡ x
+  serves-work : (x : Work)
       → ServesJob (length (w .lent .states))
-      (jobOf x (w .chip .operation .started) (w .chip .operation .until) (w .chip .waveform) (w .lent .numbers))
-  serves-work work.Nothing e = tt
-  serves-work work.PowerOn e = tt
-  serves-work work.PowerOff e = tt
-  serves-work work.DeepSleep e = tt
-  serves-work work.SoftReset e = tt
-  serves-work work.HardwareReset e = tt
-  serves-work (work.Refresh r) e = record { known = s .numbers (ap refreshRuns e); long = panelled w s .long ∙ sym (states-long w s) }
+      (jobOf x (w .chip .operation .started) (w .chip .operation .until) (w .chip .waveform)
+      (panelNumbers (mappingNow (w .chip)) (w .lent .old) (w .lent .new)))
+  unfolding numbersNow
+  serves-work work.Nothing = tt
+  serves-work work.PowerOn = tt
+  serves-work work.PowerOff = tt
+  serves-work work.DeepSleep = tt
+  serves-work work.SoftReset = tt
+  serves-work work.HardwareReset = tt
+  serves-work (work.Refresh r) = record {
+    known = numbers-known (w .chip) (w .lent .old) (w .lent .new);
+    long = numbers-length (w .chip) (w .lent .old) (w .lent .new) ∙ sym (states-long w s);
+  }
 
   pub serves : ServesJob (length (w .lent .states)) (machineOf w .job)
-  serves = serves-work (w .chip .operation .work) refl
+  serves = serves-work (w .chip .operation .work)
 
 -- ---- a sound world is never turned back
-module _ (home : (w : World) → Sound w → foreignRecord (w .chip) ≡ false) where
-  lent-accepted : (w : World) → Sound w → (fits : Bool) → fits ≡ true → lentRefused (w .chip) fits ≡ 0
-  unfolding lentRefused
-  lent-accepted w s fits e = rw (home w s, e)
+lent-accepted : (w : World) → Sound w → (fits : Bool) → fits ≡ true → lentRefused (w .chip) fits ≡ 0
+unfolding lentRefused
+lent-accepted w s fits e = rw (home (w .chip) (s .chip), e)
 
-  plane-long : (older : Bool) (w : World) → Long w → eqb (length (pick older (w .lent .old) (w .lent .new))) 60000 ≡ true
-  plane-long true w l = l .old
-  plane-long false w l = l .new
+plane-long : (older : Bool) (w : World) → Long w → eqb (length (pick older (w .lent .old) (w .lent .new))) 60000 ≡ true
+plane-long true w l = l .old
+plane-long false w l = l .new
 
-  pub take-accepted : (w : World) → Sound w → calls.takingRefused (w .chip) (w .lent .rows) ≡ 0
-  unfolding calls.takingRefused
-  take-accepted w s = lent-accepted w s _ (lengths w (s .fits) .rows)
-
-  pub sound-accepted : ((asserted : Bool) (t : ℕ) (w : World) → Sound w → turnedBack asserted t w ≡ 0) → (a : Ask) (w : World) → Sound w
-      → roomy (pixels (w .chip .config)) a ≡ true → refusedBy a w ≡ 0
-  unfolding calls.questionRefused calls.bitRefused calls.rowRefused calls.wideRefused
-  sound-accepted never (command t c) w s r = never false t w s
-  sound-accepted never (datum t b) w s r = never false t w s
-  sound-accepted never (reading t) w s r = never false t w s
-  sound-accepted never (advance t) w s r = never false t w s
-  sound-accepted never (reset t asserted) w s r = never asserted t w s
-  sound-accepted never (vcomRule t x) w s r = never false t w s
-  sound-accepted never taking w s r = take-accepted w s
-  sound-accepted never (askBusy t) w s r = lent-accepted w s true refl
-  sound-accepted never askDeadline w s r = lent-accepted w s true refl
-  sound-accepted never (askBit older x y) w s r = lent-accepted w s _ (plane-long older w (lengths w (s .fits)))
-  sound-accepted never (askRow y) w s r = lent-accepted w s _ (lengths w (s .fits) .picture)
-  sound-accepted never (askPicture top wide) w s r = rw (home w s, lengths w (s .fits) .states, r, s .states)
+pub sound-accepted : (a : Ask) (w : World) → Sound w → roomy (pixels (w .chip .config)) a ≡ true → refusedBy a w ≡ 0
+unfolding calls.takingRefused calls.questionRefused calls.bitRefused calls.rowRefused calls.wideRefused
+sound-accepted (command t c) w s r = never-turned false t w s
+sound-accepted (datum t b) w s r = never-turned false t w s
+sound-accepted (reading t) w s r = never-turned false t w s
+sound-accepted (advance t) w s r = never-turned false t w s
+sound-accepted (reset t asserted) w s r = never-turned asserted t w s
+sound-accepted (vcomRule t x) w s r = never-turned false t w s
+sound-accepted taking w s r = lent-accepted w s _ (lengths w (s .fits) .rows)
+sound-accepted (askBusy t) w s r = lent-accepted w s true refl
+sound-accepted askDeadline w s r = lent-accepted w s true refl
+sound-accepted (askBit older x y) w s r = lent-accepted w s _ (plane-long older w (lengths w (s .fits)))
+sound-accepted (askRow y) w s r = lent-accepted w s _ (lengths w (s .fits) .picture)
+sound-accepted (askPicture top wide) w s r = rw (home (w .chip) (s .chip), lengths w (s .fits) .states, r, s .states)
 
 -- ---- lists that can be: the calls that are to be turned back are lent empty buffers, the others the place's own
 abbrev pub noBuffers : Buffers
-noBuffers = record { old = []; new = []; states = []; numbers = []; picture = []; rows = [] }
+noBuffers = record { old = []; new = []; states = []; picture = []; rows = [] }
 
 abbrev pub lendingOf : World → Fed → Call
 lendingOf at f = record { ask = f .ask; lent = pick (f .back) noBuffers (at .lent) }

@@ -1,13 +1,16 @@
--- The numbers that a refresh's start writes, row by row, are the ones that the walk's machine notes, pixel by pixel.
-use mathlib.Core.Path.{_≡_, refl, sym, ap, subst, _∙_}
+-- The numbers that a refresh's end works out, row by row, are the ones that the walk's machine notes at its start, pixel by pixel, as long as
+-- registers and planes are the same.
+use mathlib.Core.Path.{_≡_, refl, ap, subst, _∙_}
 use mathlib.Core.List.{List, [], _∷_}
 use Prim.Native.Nat.{ℕ, suc, _+_, _*_, _/_, _%_, _<_}
-use native.Mathlib.Nat.{mod-lt, div-add-mod', mul-le-mul-right, mul-comm}
-use native.Mathlib.Decide.{decLe}
 use native.Mathlib.Omega.{arith}
 use lib.ListN.{length, getD}
-use Rattle.numbers.specs.Filled.{rowsFilled}
-use Rattle.numbers.proofs.FilledLaws.{rows-at, length-rows}
+use Rattle.numbers.specs.Number.{numberOf, panelNumbers}
+use Rattle.controller.specs.declared.Uc8253.{Uc8253}
+use Rattle.controller.specs.Refresh.{mappingNow}
+use Rattle.controller.specs.Glass.{numbersNow}
+use Rattle.controller.specs.Sound.{SoundChip}
+use Rattle.controller.proofs.Glass.{numbers-length, number-at}
 use Rattle.walk.specs.Machine.{tabulate}
 
 -- a list is what stands at its places
@@ -21,22 +24,14 @@ listed (x ∷ l) g from h =
     head : x ≡ g from
     head = h 0 (omega arith) ∙ ap g {x = from + 0} {y = from} (omega arith)
 
--- the row of a pixel is one of the panel's
-row-below : (n m p : ℕ) → p < n * m → p / n < m
-row-below n m p h = elim (decLe m (p / n)) [
-  | yes k ↦ absurd (omega (arith, div-add-mod' p n, mul-le-mul-right {m = m} {n = p / n} n k, mul-comm n m))
-  | no k ↦ omega arith
-]
-
-pub rows-tabulated : (f : ℕ → ℕ → ℕ) (n m : ℕ) (l : List ℕ) → 0 < n → length l ≡ n * m
-    → rowsFilled f n m l ≡ tabulate (λ p. f (p % n) (p / n)) 0 (n * m)
-rows-tabulated f n m l some e =
-    listed (rowsFilled f n m l) (λ p. f (p % n) (p / n)) 0
-    (λ p h. at p (subst (λ (k : ℕ). p < k) (length-rows f n m l ∙ e) h)
-    ∙ ap (λ (q : ℕ). f (q % n) (q / n)) {x = p} {y = 0 + p} (omega arith))
-    ∙ ap (tabulate (λ p. f (p % n) (p / n)) 0) (length-rows f n m l ∙ e)
-  where
-    at : (p : ℕ) → p < n * m → getD (rowsFilled f n m l) p 0 ≡ f (p % n) (p / n)
-    at p h =
-        ap (λ (q : ℕ). getD (rowsFilled f n m l) q 0) (sym (div-add-mod' p n))
-        ∙ rows-at f n m l (p % n) (p / n) 0 (mod-lt p some) (row-below n m p h) (omega (arith, e, mul-comm n m))
+pub numbers-tabulated : (p : Uc8253) (old new : List ℕ) → SoundChip p
+    → panelNumbers (mappingNow p) old new
+    ≡ tabulate (λ i. numberOf (mappingNow p) old new (i % p .config .panel .sources) (i / p .config .panel .sources)) 0
+    (p .config .panel .sources * p .config .panel .gates)
+unfolding numbersNow
+numbers-tabulated p old new s =
+    let n = p .config .panel .sources in
+    let f : ℕ → ℕ = λ i. numberOf (mappingNow p) old new (i % n) (i / n) in
+    listed (numbersNow p old new) f 0
+    (λ i h. number-at p old new s 0 i (subst (λ (k : ℕ). i < k) (numbers-length p old new) h) ∙ ap f {x = i} {y = 0 + i} (omega arith))
+    ∙ ap (tabulate f 0) (numbers-length p old new)

@@ -41,7 +41,7 @@ module _ (v : Variant) (period rate : ℕ) (some : eqb period 0 ≡ false) (righ
   unfolding refusal emptyPanel oversizedPanel swingRefused periodRefused rateRefused
   unrefused = rw (some, right)
 
-  fits : (l r : ℕ) → l ≡ 60000 → r ≡ 5120 → lengthsFit (onePixel v period rate) l l 1 1 1 r ≡ true
+  fits : (l r : ℕ) → l ≡ 60000 → r ≡ 5120 → lengthsFit (onePixel v period rate) l l 1 1 r ≡ true
   unfolding lengthsFit
   fits l r e d = rw (e, d)
 

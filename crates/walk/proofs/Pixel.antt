@@ -18,7 +18,7 @@ use Rattle.pixels.specs.States.{isNumber, everyNumber, everyState}
 use Rattle.pixels.specs.Drive.{byNumber, framesFor}
 use Rattle.pixels.proofs.ListLaws.{beside-at}
 use Rattle.pixels.proofs.StateLaws.{numbers-known, states-in-range}
-use Rattle.controller.specs.Refresh.{walked}
+use Rattle.controller.specs.Glass.{walked}
 use Rattle.controller.specs.Ask.{Ask, command, datum, reading, advance, reset, vcomRule, taking, askBusy, askDeadline, askBit, askRow, askPicture}
 use Rattle.walk.specs.Machine.{Ended, nothing, whole, cut, framesOn, framesBy, Out, done}
 use Rattle.walk.specs.Machine.{reached, due, settled, cutTask, cutJob, lowered, stepped}

@@ -13,11 +13,13 @@ use Rattle.clock.specs.Clock.{billion}
 use Rattle.clock.proofs.ClockLaws.{rate-good}
 use Rattle.config.specs.declared.Uc8253Config.{Uc8253Config}
 use Rattle.config.specs.declared.Variant.the-variants as variant
+use Rattle.numbers.specs.Number.{panelNumbers}
 use Rattle.waveform.specs.declared.Waveform.{Waveform}
 use Rattle.controller.specs.declared.Work.{Work}
 use Rattle.controller.specs.declared.Work.the-variants as work
 use Rattle.controller.specs.World.{World}
 use Rattle.controller.specs.Command.{busy}
+use Rattle.controller.specs.Refresh.{mappingNow}
 use Rattle.controller.specs.TurnedBack.{makingRefused}
 use Rattle.controller.specs.Ask.{Ask, command, datum, reading, advance, reset, vcomRule, taking, askBusy, askDeadline, askBit}
 use Rattle.walk.specs.Machine.{Fed, fresh, ran}
@@ -113,7 +115,8 @@ module _ (g : Uc8253Config) (gray : g .optics .«initial_gray» < 256) (taken : 
     runs : Runs (placed g fs i) × (placed g fs i .chip .operation .until ≡ end)
     runs =
         let p = placed g fs i .chip in
-        runs-until (p .operation .work) (p .operation .started) (p .operation .until) (p .waveform) (placed g fs i .lent .numbers) end some
+        runs-until (p .operation .work) (p .operation .started) (p .operation .until) (p .waveform)
+        (panelNumbers (mappingNow p) (placed g fs i .lent .old) (placed g fs i .lent .new)) end some
         (ap (λ (m : Machine). endOf (m .job)) (shows i q) ∙ is)
 
     -- what is supposed, by the times; and where no accepted call is timed

@@ -1,28 +1,31 @@
--- What demand 3 sees of a world: its configuration, the machine that it shows, and the states of its glass.
-use mathlib.Core.Path.{_≡_}
-use mathlib.Core.Bool.{Bool, true, false, not, _&&_}
+-- What demand 3 sees of a record and its planes: the machine that they show.
+use mathlib.Core.Path.{_≡_, refl}
+use mathlib.Core.Bool.{Bool, true, false, not, _&&_, true≢false}
 use mathlib.Core.List.{List}
-use Prim.Native.Nat.{ℕ, _*_, _<_}
+use Prim.Native.Nat.{ℕ}
 use lib.Dec.{eqb}
 use lib.IntN.{ℤ}
-use lib.ListN.{length, take}
+use lib.ListN.{take}
 use Rattle.base.specs.Pick.{pick}
 use Rattle.command.specs.declared.kinds.Params.{Params}
 use Rattle.command.specs.declared.kinds.Params.the-variants as params
 use Rattle.command.specs.declared.kinds.Kind.{Kind}
 use Rattle.command.specs.declared.kinds.Kind.the-variants as kind
-use Rattle.config.specs.declared.Uc8253Config.{Uc8253Config}
 use Rattle.waveform.specs.declared.Waveform.{Waveform}
 use Rattle.waveform.specs.Frames.{framesOf}
+use Rattle.numbers.specs.Number.{panelNumbers}
 use Rattle.controller.specs.declared.Active.{Active}
 use Rattle.controller.specs.declared.Current.{Current}
 use Rattle.controller.specs.declared.Current.the-variants as current
 use Rattle.controller.specs.declared.Work.{Work}
 use Rattle.controller.specs.declared.Work.the-variants as work
+use Rattle.controller.specs.declared.Uc8253.{Uc8253}
 use Rattle.controller.specs.World.{World}
 use Rattle.controller.specs.Command.{inReset, asleep}
-use Rattle.controller.specs.Refresh.{walked}
-use Rattle.walk.specs.Machine.{Ended, nothing, whole, cut, Out}
+use Rattle.controller.specs.Refresh.{mappingNow}
+use Rattle.controller.specs.Glass.{walked}
+use Rattle.controller.specs.TurnedBack.{refreshRuns}
+use Rattle.walk.specs.Machine.{Ended, nothing, whole, cut}
 use Rattle.walk.specs.Kept.{Order, Hearing, none, ignored, under, Job, idle, until, powersUp}
 use Rattle.walk.specs.Kept.{powersDown, fallsAsleep, resetsSoftly, resetsHardly, drives, Machine}
 
@@ -55,7 +58,7 @@ apt current.Idle = true
 apt current.Ignoring = true
 apt (current.Active a) = pick (over a) (not (eqb (a .received) 0)) true
 
--- work, its start and its end; the waveform and the numbers are those of the refresh started last
+-- work, its start and its end; the waveform is that of the refresh started last
 abbrev pub jobOf : Work → ℕ → ℕ → Waveform → List ℕ → Job
 jobOf work.Nothing s e v ns = idle
 jobOf work.PowerOn s e v ns = until e powersUp
@@ -65,46 +68,40 @@ jobOf work.SoftReset s e v ns = until e resetsSoftly
 jobOf work.HardwareReset s e v ns = until e resetsHardly
 jobOf (work.Refresh r) s e v ns = until e (drives (record { since = s; wave = v; area = r .area; numbers = ns }))
 
-abbrev pub machineOf : World → Machine
-machineOf w = record {
-  clock = w .chip .now;
-  low = inReset (w .chip .mode .power);
-  sleep = asleep (w .chip .mode .power);
-  power = w .chip .mode .powered;
-  regs = w .chip .regs;
-  luts = w .chip .luts;
-  hears = hearingOf (w .chip .stage .current);
-  old = w .lent .old;
-  new = w .lent .new;
-  job = jobOf (w .chip .operation .work) (w .chip .operation .started) (w .chip .operation .until) (w .chip .waveform) (w .lent .numbers);
-  byFrame = w .chip .mode .«vcom_by_frame»;
+-- the numbers are worked out from the registers and planes as they stand
+abbrev pub seen : Uc8253 → List ℕ → List ℕ → Machine
+seen p old new = record {
+  clock = p .now;
+  low = inReset (p .mode .power);
+  sleep = asleep (p .mode .power);
+  power = p .mode .powered;
+  regs = p .regs;
+  luts = p .luts;
+  hears = hearingOf (p .stage .current);
+  old = old;
+  new = new;
+  job = jobOf (p .operation .work) (p .operation .started) (p .operation .until) (p .waveform) (panelNumbers (mappingNow p) old new);
+  byFrame = p .mode .«vcom_by_frame»;
 }
 
-pub record View : Type 0 where
-  pub config : Uc8253Config
-  pub machine : Machine
-  pub states : List ℤ
+abbrev pub machineOf : World → Machine
+machineOf w = seen (w .chip) (w .lent .old) (w .lent .new)
 
-abbrev pub view : World → View
-view w = record { config = w .chip .config; machine = machineOf w; states = w .lent .states }
-
--- the glass as it was
-abbrev pub looks : World → Machine → View
-looks w m = record { config = w .chip .config; machine = m; states = w .lent .states }
+-- with no refresh running, numbers are seen nowhere
+pub job-free : (x : Work) (s e : ℕ) (v : Waveform) (ns ms : List ℕ) → refreshRuns x ≡ false → jobOf x s e v ns ≡ jobOf x s e v ms
+job-free work.Nothing s e v ns ms f = refl
+job-free work.PowerOn s e v ns ms f = refl
+job-free work.PowerOff s e v ns ms f = refl
+job-free work.DeepSleep s e v ns ms f = refl
+job-free work.SoftReset s e v ns ms f = refl
+job-free work.HardwareReset s e v ns ms f = refl
+job-free (work.Refresh r) s e v ns ms f = absurd (true≢false f)
 
 -- the states after a refresh's end
 abbrev pub statesAfter : ℕ → Bool → Ended → List ℤ → List ℤ
 statesAfter swing black nothing ss = ss
 statesAfter swing black (whole r) ss = walked swing (λ n. framesOf (r .wave) black n) (r .numbers) ss
 statesAfter swing black (cut k r) ss = walked swing (λ n. take k (framesOf (r .wave) black n)) (r .numbers) ss
-
-abbrev pub drivenBy : World → Out → View
-drivenBy w o = record {
-  config = w .chip .config;
-  machine = o .machine;
-  states =
-      statesAfter (w .chip .config .optics .«full_swing») (w .chip .config .optics .«positive_drives_black») (o .ended) (w .lent .states);
-}
 
 abbrev pub live : Hearing → Bool
 live none = false
@@ -119,8 +116,3 @@ works (until e k) = true
 pub record Calm (m : Machine) : Type 0 where
   pub still : m .low ≡ true → works (m .job) ≡ false
   pub deaf : m .low ≡ true → live (m .hears) ≡ false
-
--- every pixel has a number, and there is a column
-pub record Panelled (w : World) : Type 0 where
-  pub wide : 0 < w .chip .config .panel .sources
-  pub long : length (w .lent .numbers) ≡ w .chip .config .panel .sources * w .chip .config .panel .gates

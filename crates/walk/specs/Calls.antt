@@ -16,8 +16,7 @@ use Rattle.controller.specs.World.{World, Buffers, world}
 use Rattle.controller.specs.TurnedBack.{makingRefused}
 use Rattle.controller.specs.Calls.{made}
 use Rattle.walk.specs.Machine.{Fed, fresh, ran, framesFed}
-use Rattle.controller.specs.Ask.{Ask, command, datum, reading, advance, reset, vcomRule, taking, askBusy, askDeadline, askBit, askRow, askPicture}
-use Rattle.controller.specs.Ask.{did, refusedBy, writes}
+use Rattle.controller.specs.Ask.{Ask, IsByte, did, refusedBy, writes}
 
 -- a call of the list: its kind and arguments, and the buffers that it is lent
 pub record Call : Type 0 where
@@ -55,20 +54,6 @@ OwnBuffers at [] = Unit {0}
 OwnBuffers at (c ∷ cs) = OwnFor (writes (c .ask)) at c × OwnBuffers (next at c) cs
 
 -- command and data bytes are bytes
-abbrev pub IsByte : Ask → Type 0
-IsByte (command t c) = c < 256
-IsByte (datum t b) = b < 256
-IsByte (reading t) = Unit {0}
-IsByte (advance t) = Unit {0}
-IsByte (reset t asserted) = Unit {0}
-IsByte (vcomRule t x) = Unit {0}
-IsByte taking = Unit {0}
-IsByte (askBusy t) = Unit {0}
-IsByte askDeadline = Unit {0}
-IsByte (askBit older x y) = Unit {0}
-IsByte (askRow y) = Unit {0}
-IsByte (askPicture top wide) = Unit {0}
-
 abbrev pub Bytes : List Call → Type 0
 Bytes [] = Unit {0}
 Bytes (c ∷ cs) = IsByte (c .ask) × Bytes cs

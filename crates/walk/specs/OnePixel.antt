@@ -40,7 +40,6 @@ bench = record {
   old = replicate 60000 0;
   new = replicate 60000 0;
   states = pos 7 ∷ [];
-  numbers = 9 ∷ [];
   picture = 9 ∷ [];
   rows = replicate 5120 0;
 }

@@ -31,10 +31,11 @@ use Rattle.controller.specs.declared.Work.the-variants as work
 use Rattle.controller.specs.declared.reads.Read.{Read}
 use Rattle.controller.specs.declared.reads.Read.the-variants.{Byte, Nothing}
 use Rattle.controller.specs.World.{World, Buffers}
-use Rattle.controller.specs.Refresh.{waveformNow, walked, allFrames, elapsed}
+use Rattle.controller.specs.Refresh.{waveformNow, allFrames, elapsed}
+use Rattle.controller.specs.Glass.{numbersNow, walked}
 use Rattle.controller.specs.TurnedBack.{turnedBack, makingRefused}
-use Rattle.controller.specs.Calls.{commandCall, readCall, readAnswer, resetCall, made}
-use Rattle.controller.specs.Ask.{reset}
+use Rattle.controller.specs.Calls.{readAnswer, made}
+use Rattle.controller.specs.Ask.{command, reading, reset, did}
 use Rattle.controller.specs.Counting.{own}
 use Rattle.walk.specs.Machine.{cut, framesOn, stepped, framesAt, framesFed}
 use Rattle.walk.specs.Kept.{Noted, drives, until, Machine}
@@ -80,7 +81,7 @@ pub record ThreeFrames (v : Waveform) (black : Bool) (numbers : List ℕ) (p : �
 
 -- in the record's refresh, and in the one that the walk noted
 abbrev pub ThreeIn : World → ℕ → ℤ → ℤ → ℤ → Type 0
-ThreeIn w p x y z = ThreeFrames (w .chip .waveform) (w .chip .config .optics .«positive_drives_black») (w .lent .numbers) p x y z
+ThreeIn w p x y z = ThreeFrames (w .chip .waveform) (w .chip .config .optics .«positive_drives_black») (numbersNow (w .chip) (w .lent .old) (w .lent .new)) p x y z
 
 abbrev pub ThreeNoted : Uc8253Config → Noted → ℕ → ℤ → ℤ → ℤ → Type 0
 ThreeNoted g r p x y z = ThreeFrames (r .wave) (g .optics .«positive_drives_black») (r .numbers) p x y z
@@ -101,11 +102,11 @@ AllEmpty w = (k : ℕ) → running (tableAt w k) ≡ []
 -- reads at these times, one after the other: the world after them, and their answers
 abbrev pub afterReads : List ℕ → World → World
 afterReads [] w = w
-afterReads (t ∷ ts) w = afterReads ts (readCall t w)
+afterReads (t ∷ ts) w = afterReads ts (did (reading t) w)
 
 abbrev pub answers : List ℕ → World → List Read
 answers [] w = []
-answers (t ∷ ts) w = readAnswer t w ∷ answers ts (readCall t w)
+answers (t ∷ ts) w = readAnswer t w ∷ answers ts (did (reading t) w)
 
 -- a making of a UC8279d that is accepted; a grey is a byte
 pub record Made8279d (c : Uc8253Config) (b : Buffers) : Type 0 where
@@ -151,15 +152,16 @@ pub record Table : Type 0 where
   -- the frames elapsed; the states after the call that asserts reset; and the frames that the walk gives a pixel
   pub elapsed-2 : (p : Uc8253) → p .config .timing .rate ≡ billion → p .waveform .«frame_ns» ≡ 1_000 → p .now ≡ p .operation .started + 2_999 → elapsed own p ≡ 2
   pub states-2 : (w : World) (r : Refresh) → Refreshes w r
-      → resetCall own (w .chip .operation .started + 2_999) true w .lent .states
-      ≡ walked (w .chip .config .optics .«full_swing») (λ k. take 2 (allFrames (w .chip) k)) (w .lent .numbers) (w .lent .states)
+      → did (reset (w .chip .operation .started + 2_999) true) w .lent .states
+      ≡ walked (w .chip .config .optics .«full_swing») (λ k. take 2 (allFrames (w .chip) k))
+      (numbersNow (w .chip) (w .lent .old) (w .lent .new)) (w .lent .states)
   pub walk-2 : (g : Uc8253Config) (m : Machine) (r : Noted) (end : ℕ) → Drives g m r end
       → stepped g m (reset (r .since + 2_999) true) .ended ≡ cut 2 r
   pub frames-2 : (g : Uc8253Config) (m : Machine) (r : Noted) (end : ℕ) → Drives g m r end → (p : ℕ)
       → framesAt g m (reset (r .since + 2_999) true) p ≡ take 2 (framesOn (g .optics .«positive_drives_black») r (getD (r .numbers) p 255))
   -- of a pixel whose table has 3 frames: its state walks the first 2 and no other; and the walk gives it these, as demand 3 takes them
   pub state-of-3 : (w : World) (r : Refresh) → Refreshes w r → (p : ℕ) (x y z : ℤ) → ThreeIn w p x y z
-      → stateAt p (resetCall own (w .chip .operation .started + 2_999) true w)
+      → stateAt p (did (reset (w .chip .operation .started + 2_999) true) w)
       ≡ pos (walk (w .chip .config .optics .«full_swing») (up (stateAt p w)) (x ∷ y ∷ []))
   pub frames-of-3 : (g : Uc8253Config) (m : Machine) (r : Noted) (end : ℕ) → Drives g m r end → (p : ℕ) (x y z : ℤ) → ThreeNoted g r p x y z
       → framesFed g m (feed (reset (r .since + 2_999) true) ∷ []) p ≡ x ∷ y ∷ []
@@ -168,7 +170,7 @@ pub record Table : Type 0 where
   pub drive-met : Drives (slow variant.Uc8253) driving noted3 5_100
   pub three-met : ThreeNoted (slow variant.Uc8253) noted3 0 lift lift lift
   pub state-before : stateAt 0 refreshing ≡ pos 0
-  pub state-after : stateAt 0 (resetCall own 3_099 true refreshing) ≡ pos 28_000_000
+  pub state-after : stateAt 0 (did (reset 3_099 true) refreshing) ≡ pos 28_000_000
   -- ---- "All tables empty: 2 frames long, none driven."
   -- whatever the levels and the sign; as the tables that a reset leaves are
   pub empty-long : (w : Waveform) → AllEmpty w → 2 * w .«frame_ns» ≤ top → durationOf w ≡ 2 * w .«frame_ns»
@@ -179,9 +181,9 @@ pub record Table : Type 0 where
   -- by the calls, whatever their times; and such a making there is
   pub made-met : Made8279d (slow variant.Uc8279d) bench
   pub read-71 : (c : Uc8253Config) (b : Buffers) → Made8279d c b → (t t0 t1 : ℕ)
-      → answers (t0 ∷ t1 ∷ []) (commandCall own t 0x71 (made c b)) ≡ Byte 0x13 ∷ Nothing ∷ []
+      → answers (t0 ∷ t1 ∷ []) (did (command t 0x71) (made c b)) ≡ Byte 0x13 ∷ Nothing ∷ []
   pub read-70 : (c : Uc8253Config) (b : Buffers) → Made8279d c b → (t t0 t1 t2 t3 t4 t5 : ℕ)
-      → answers (t0 ∷ t1 ∷ t2 ∷ t3 ∷ t4 ∷ t5 ∷ []) (commandCall own t 0x70 (made c b))
+      → answers (t0 ∷ t1 ∷ t2 ∷ t3 ∷ t4 ∷ t5 ∷ []) (did (command t 0x70) (made c b))
       ≡ Byte 0x00 ∷ Byte 0x03 ∷ Byte 0x66 ∷ Byte 0xFF ∷ Byte 0xFF ∷ Nothing ∷ []
   pub then-none : (c : Uc8253Config) (b : Buffers) → Made8279d c b → (t u : ℕ) (ts : List ℕ) → 5 ≤ length ts
-      → readAnswer u (afterReads ts (commandCall own t 0x70 (made c b))) ≡ Nothing
+      → readAnswer u (afterReads ts (did (command t 0x70) (made c b))) ≡ Nothing

@@ -1,4 +1,4 @@
-//! A panel: the controller's record and the six buffers that its calls are lent.
+//! A panel: the controller's record and the five buffers that its calls are lent.
 
 use std::error::Error;
 use std::fmt;
@@ -37,8 +37,6 @@ pub struct Parts {
     pub new: Vec<u8>,
     /// Where each pixel stands, 0 black to the full swing; sources × gates.
     pub states: Vec<i64>,
-    /// The table that drives each pixel, 1 to 4, or 255; sources × gates.
-    pub numbers: Vec<u8>,
     /// The greys of the last picture, rows from the top left; sources × gates.
     pub picture: Vec<u8>,
     /// The stored rows, 5,120 numbers.
@@ -81,7 +79,7 @@ impl From<Refused> for RunError {
     }
 }
 
-/// Calls a function of the library that is lent the six buffers of a panel.
+/// Calls a function of the library that is lent the five buffers of a panel.
 macro_rules! lend {
     ($parts:expr, $function:ident($($argument:expr),*)) => {
         // SAFETY: each pointer and length are those of one slice, and no two slices overlap.
@@ -94,8 +92,6 @@ macro_rules! lend {
                 $parts.new.len(),
                 $parts.states.as_mut_ptr(),
                 $parts.states.len(),
-                $parts.numbers.as_mut_ptr(),
-                $parts.numbers.len(),
                 $parts.picture.as_mut_ptr(),
                 $parts.picture.len(),
                 $parts.rows.as_mut_ptr(),
@@ -119,7 +115,6 @@ impl Panel {
         let mut old = vec![0; PLANE_BYTES];
         let mut new = vec![0; PLANE_BYTES];
         let mut states = vec![0; pixels];
-        let mut numbers = vec![0; pixels];
         let mut picture = vec![0; pixels];
         let mut rows = vec![0; ROW_NUMBERS * MOST_ROWS];
         // SAFETY: each pointer and length are those of one slice, and no two slices overlap.
@@ -133,8 +128,6 @@ impl Panel {
                 new.len(),
                 states.as_mut_ptr(),
                 states.len(),
-                numbers.as_mut_ptr(),
-                numbers.len(),
                 picture.as_mut_ptr(),
                 picture.len(),
                 rows.as_mut_ptr(),
@@ -147,7 +140,6 @@ impl Panel {
             old,
             new,
             states,
-            numbers,
             picture,
             rows,
         }))

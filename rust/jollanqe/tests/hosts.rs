@@ -118,7 +118,7 @@ fn a_short_or_a_long_buffer_is_refused_by_5() {
     refused(5, word, |parts| parts.old.push(0));
     refused(5, word, |parts| parts.new.clear());
     refused(5, word, |parts| parts.states.truncate(7));
-    refused(5, word, |parts| parts.numbers.push(1));
+    refused(5, word, |parts| parts.picture.push(1));
     refused(5, word, |parts| parts.picture.clear());
     refused(5, word, |parts| parts.rows.truncate(5_119));
     refused(5, word, |parts| parts.record.panel.sources = 16);
@@ -151,9 +151,8 @@ fn foreign_contents_are_refused_by_7() {
     let word = "foreign contents";
     refused(7, word, |parts| parts.states[7] = -1);
     refused(7, word, |parts| parts.states[0] = SWING as i64 + 1);
-    refused(7, word, |parts| parts.numbers[3] = 5);
     let mut parts = refreshing().into_parts();
-    parts.numbers[0] = 0;
+    parts.states[0] = -1;
     assert_eq!(Panel::from_parts(parts).advance(3_099), Ok(()));
 }
 
@@ -361,7 +360,6 @@ fn a_picture_at_a_top_is_refused_by_6_5_and_7() {
     assert_eq!(asked(|parts| parts.states[0] = SWING as i64 + 1, 8), 7);
     assert_eq!(asked(|parts| parts.states[0] = -1, 9), 5);
     // what it is not lent it does not test
-    assert_eq!(asked(|parts| parts.numbers[0] = 9, 8), 0);
     assert_eq!(asked(|parts| parts.picture.clear(), 8), 0);
 }
 

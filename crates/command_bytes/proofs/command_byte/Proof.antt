@@ -1,16 +1,37 @@
--- `command_bytes::command_byte` meets its contract: closing, then sorting.
-use Rattle.controller.specs.Command.{passed, commandByte}
-use Rattle.controller.specs.World.{World, world, buffers}
+-- `command_bytes::command_byte` meets its contract, by what drops a command.
 use Rattle.controller.specs.Counting.{own}
-use mathlib.Core.Path.{ap, _∙_}
+use Rattle.controller.specs.Command.{passedBy, commandByte}
+use Rattle.controller.specs.declared.notes.Note.{Note}
+use Rattle.rules.proofs.Changed.{in-case}
+use mathlib.Core.Path.{sym, _∙_}
 use borrow.Author.Needs.{needs}
 use Rattle.command_bytes.proofs.command_byte.Statement.{statement}
 use Rattle.command_bytes.proofs.command_byte.Tie as tie
 
 returns : tie.Need-returns
 unfolding commandByte
-returns c = λ states picture. let g = c .before .before .before .before .before .before .before .before .before .before .before .before .before .before .before .args in let w = world (g .p) (buffers (g .old .now) (g .new .now) states (g .table-numbers .now) picture (g .rows .now)) in c .before .before .before .before .pass .ensures states picture ∙ ap (λ (v : World). passed own (g .command) v) (c .before .before .before .before .before .before .before .before .before .close .ensures (w .lent))
+returns c =
+    let g = c .before .before .before .before .before .before .args in
+    in-case (λ (n : Note). passedBy own n (g .command) (g .p))
+    (sym (c .before .before .before .barred .ensures) ∙ c .before .enum-told .given .1)
+    (c .accept .ensures)
+
+returns-2 : tie.Need-returns-2
+unfolding commandByte
+returns-2 c =
+    let g = c .before .before .before .before .before .before .args in
+    in-case (λ (n : Note). passedBy own n (g .command) (g .p))
+    (sym (c .before .before .before .barred .ensures) ∙ c .before .enum-told2 .given .1)
+    (c .with-current .ensures)
 
 pub command-byte-spec : {M : Type 1} → statement M
 command-byte-spec =
-    tie.close (tie.spec (λ c κs. search needs) (λ c κs. search needs) (λ c. search needs) (λ c. search needs) returns)
+    tie.close
+    (tie.spec
+    (λ c κs. search needs)
+    (λ c. search needs)
+    (λ c κs. search needs)
+    (λ c. search needs)
+    (λ c κs. search needs)
+    returns
+    returns-2)

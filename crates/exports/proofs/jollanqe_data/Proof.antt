@@ -8,7 +8,7 @@ use Rattle.exports.proofs.jollanqe_data.Statement.{statement}
 use Rattle.exports.proofs.jollanqe_data.Tie as tie
 
 returns : tie.Need-returns
-returns c = let g = c .before .before .before .before .before .before .before .before .before .before .before .before .before .before .before .before .before .before .before .before .before .before .before .before .before .args in let b : Buffers = buffers (g .old .now) (g .new .now) (g .states .now) (g .numbers .now) (g .picture .now) (g .rows .now) in let a = c .before .before .before .before .before .before .before .before .before .before .before .before .write-data in passed (ask.datum (g .at) (g .byte)) (g .chip) _ b (c .before .before .before .before .before .before .before .before .before .before .before .before .before .before .before .before .before .before .before .taken .ensures) (c .no-read .ensures) (a .ensures .0) (a .ensures .1) refl
+returns c = let g = c .before .before .before .before .before .before .before .before .before .before .before .before .before .before .before .before .before .before .before .before .before .args in let b : Buffers = buffers (g .old .now) (g .new .now) (g .states .now) (g .picture .now) (g .rows .now) in let a = c .before .before .before .before .before .before .before .before .before .before .write-data in passed (ask.datum (g .at) (g .byte)) (g .chip) _ b (c .before .before .before .before .before .before .before .before .before .before .before .before .before .before .before .before .taken .ensures) (c .no-read .ensures) (a .ensures .0) (a .ensures .1) refl
 
 pub jollanqe-data-spec : {M : Type 1} → statement M
 jollanqe-data-spec =
@@ -17,7 +17,6 @@ jollanqe-data-spec =
     (λ c κs. search needs)
     (λ c κs. search needs)
     (λ c κs. search needs)
-    (λ c. search needs)
     (λ c. search needs)
     (λ c. search needs)
     (λ c. search needs)

@@ -8,7 +8,7 @@ use Rattle.exports.proofs.jollanqe_vcom_rule.Statement.{statement}
 use Rattle.exports.proofs.jollanqe_vcom_rule.Tie as tie
 
 returns : tie.Need-returns
-returns c = let g = c .before .before .before .before .before .before .before .before .before .before .before .before .before .before .before .before .before .before .before .before .before .before .before .before .before .args in let b : Buffers = buffers (g .old .now) (g .new .now) (g .states .now) (g .numbers .now) (g .picture .now) (g .rows .now) in let a = c .before .before .before .before .before .before .before .before .before .before .before .before .set-vcom-rule in passed (ask.vcomRule (g .at) (g .by-frame)) (g .chip) _ b (c .before .before .before .before .before .before .before .before .before .before .before .before .before .before .before .before .before .before .before .taken .ensures) (c .no-read .ensures) (a .ensures .0) (a .ensures .1) refl
+returns c = let g = c .before .before .before .before .before .before .before .before .before .before .before .before .before .before .before .before .before .before .before .before .before .args in let b : Buffers = buffers (g .old .now) (g .new .now) (g .states .now) (g .picture .now) (g .rows .now) in let a = c .before .before .before .before .before .before .before .before .before .before .set-vcom-rule in passed (ask.vcomRule (g .at) (g .by-frame)) (g .chip) _ b (c .before .before .before .before .before .before .before .before .before .before .before .before .before .before .before .before .taken .ensures) (c .no-read .ensures) (a .ensures .0) (a .ensures .1) refl
 
 pub jollanqe-vcom-rule-spec : {M : Type 1} → statement M
 jollanqe-vcom-rule-spec =
@@ -17,7 +17,6 @@ jollanqe-vcom-rule-spec =
     (λ c κs. search needs)
     (λ c κs. search needs)
     (λ c κs. search needs)
-    (λ c. search needs)
     (λ c. search needs)
     (λ c. search needs)
     (λ c. search needs)

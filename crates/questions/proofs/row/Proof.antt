@@ -25,7 +25,7 @@ add-result : tie.Need-add-result
 add-result c = record { fits = omega (arith, small (c .before .before .before .before .before .before .before .args .y) (c .before .before .before .before .before .before .before .args .p .config .panel .sources) (search needs) (search needs)) }
 
 part-result-end-2 : tie.Need-part-result-end-2
-part-result-end-2 c = let b : Buffers = buffers [] [] [] [] [] [] in omega (arith, row-fits (c .before .before .before .before .before .before .before .args .p .config .panel .sources) (c .before .before .before .before .before .before .before .args .p .config .panel .gates) (c .before .before .before .before .before .before .before .args .y) (c .before .if2 .left), row-length (c .before .before .before .before .before .before .before .args .p) _ (eqb-true _ 0 (told (c .before .before .before .before .none .ensures) (c .before .before .before .before .before .row-refused .ensures 0 b) (c .before .before .before .if1 .taken))))
+part-result-end-2 c = let b : Buffers = buffers [] [] [] [] [] in omega (arith, row-fits (c .before .before .before .before .before .before .before .args .p .config .panel .sources) (c .before .before .before .before .before .before .before .args .p .config .panel .gates) (c .before .before .before .before .before .before .before .args .y) (c .before .if2 .left), row-length (c .before .before .before .before .before .before .before .args .p) _ (eqb-true _ 0 (told (c .before .before .before .before .none .ensures) (c .before .before .before .before .before .row-refused .ensures 0 b) (c .before .before .before .if1 .taken))))
 
 returns-2 : tie.Need-returns-2
 unfolding rowAnswer

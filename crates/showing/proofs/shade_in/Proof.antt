@@ -8,15 +8,15 @@ use Rattle.showing.proofs.shade_in.Tie as tie
 
 tone-requires : tie.Need-tone-requires
 tone-requires c κs =
-    let made = c .before .before .before .before .before .before .before .before .before .before .before .before .before .before .before in
-    let start = made .before .before .before .before .before .before .before .before .before .before .before .before .before .before .before in
+    let made = c .before .before .before .before .before .before .before .before .before .before .before .before .before in
+    let start = made .before .before .before .before .before .before .before .before .before .before .before .before .before in
     let a = start .args in
-    let b : Buffers = buffers (a .old .now) (a .new .now) (a .states .now) (a .numbers .now) (a .picture .now) (a .rows .now) in
+    let b : Buffers = buffers (a .old .now) (a .new .now) (a .states .now) (a .picture .now) (a .rows .now) in
     shaded (a .form) (a .top) (a .file .now) (a .sizes) b (start .pre .1) _ _ (made .play .ensures .0 .0)
 
 returns : tie.Need-returns
 returns c =
-    let made = c .before .before .before .before .before .before .before .before .before .before .before .before .before .before .before .before in
+    let made = c .before .before .before .before .before .before .before .before .before .before .before .before .before .before in
     ap (λ (w : World). w .lent) (made .play .ensures .0 .0)
 
 pub shade-in-spec : {M : Type 1} → statement M
@@ -25,7 +25,6 @@ shade-in-spec =
     (tie.spec
     (λ c κs. search needs)
     tone-requires
-    (λ c. search needs)
     (λ c. search needs)
     (λ c. search needs)
     (λ c. search needs)

@@ -7,42 +7,37 @@ use Rattle.showing.proofs.show.Statement.{statement}
 use Rattle.showing.proofs.show.Tie as tie
 
 slice-aggregate-show-in-2 : tie.Need-slice-aggregate-show-in-2
-slice-aggregate-show-in-2 c = length-front _ _ (c .before .before .before .before .before .before .cut .ensures .1)
+slice-aggregate-show-in-2 c = length-front _ _ (c .before .before .before .before .before .cut .ensures .1)
 
 slice-aggregate-show-in-3 : tie.Need-slice-aggregate-show-in-3
-slice-aggregate-show-in-3 c = length-front _ _ (c .before .before .before .before .before .before .cut2 .ensures .1)
-
-slice-aggregate-show-in-4 : tie.Need-slice-aggregate-show-in-4
-slice-aggregate-show-in-4 c = length-front _ _ (c .before .before .before .before .before .before .cut3 .ensures .1)
+slice-aggregate-show-in-3 c = length-front _ _ (c .before .before .before .before .before .cut2 .ensures .1)
 
 show-in-requires : tie.Need-show-in-requires
 show-in-requires c κs =
-    let third = c .before .before .before .before .before .before .before in
-    let second = third .before in
+    let second = c .before .before .before .before .before .before in
     let first = second .before in
     let counted = first .before in
     let taken = counted .before .before in
-    let start = taken .before .before .before .before .before .before .before in
+    let start = taken .before .before .before .before .before .before in
     let a = start .args in
-    let b : Buffers = buffers (a .old .now) (a .new .now) (a .states .now) (a .numbers .now) (a .picture .now) (a .rows .now) in
+    let b : Buffers = buffers (a .old .now) (a .new .now) (a .states .now) (a .picture .now) (a .rows .now) in
     let p = size-read (a .file .now) _ _ (taken .read .ensures .config-is) (counted .pixels .ensures) in (
       taken .read .ensures,
-      (fits-cut (a .file .now) b _ _ _ _ p (first .cut .ensures .0) (second .cut2 .ensures .0) (third .cut3 .ensures .0), refl),
+      (fits-cut (a .file .now) b _ _ _ p (first .cut .ensures .0) (second .cut2 .ensures .0), refl),
     )
 
 returns : tie.Need-returns
 returns c =
-    let third = c .before .before .before .before .before .before .before .before .before .before .before .before .before .before .before .before .before .before .before .before in
-    let second = third .before in
+    let second = c .before .before .before .before .before .before .before .before .before .before .before .before .before .before .before .before .before in
     let first = second .before in
     let counted = first .before in
     let taken = counted .before .before in
-    let start = taken .before .before .before .before .before .before .before in
+    let start = taken .before .before .before .before .before .before in
     let a = start .args in
-    let b : Buffers = buffers (a .old .now) (a .new .now) (a .states .now) (a .numbers .now) (a .picture .now) (a .rows .now) in
+    let b : Buffers = buffers (a .old .now) (a .new .now) (a .states .now) (a .picture .now) (a .rows .now) in
     let p = size-read (a .file .now) _ _ (taken .read .ensures .config-is) (counted .pixels .ensures) in
-    left-by (a .file .now) b _ _ _ _ p (first .cut .ensures .0) (second .cut2 .ensures .0) (third .cut3 .ensures .0) (a .form) _
-    (c .before .before .before .before .before .before .before .before .before .before .before .before .show-in .ensures)
+    left-by (a .file .now) b _ _ _ p (first .cut .ensures .0) (second .cut2 .ensures .0) (a .form) _
+    (c .before .before .before .before .before .before .before .before .before .before .show-in .ensures)
 
 pub show-spec : {M : Type 1} → statement M
 show-spec =
@@ -52,16 +47,12 @@ show-spec =
     (λ c κs. search needs)
     (λ c κs. search needs)
     (λ c κs. search needs)
-    (λ c κs. search needs)
     (λ c. search needs)
     (λ c. search needs)
     slice-aggregate-show-in-2
     (λ c. search needs)
     slice-aggregate-show-in-3
-    (λ c. search needs)
-    slice-aggregate-show-in-4
     show-in-requires
-    (λ c. search needs)
     (λ c. search needs)
     (λ c. search needs)
     (λ c. search needs)

@@ -9,11 +9,11 @@ use Rattle.showing.proofs.show_in.Tie as tie
 
 write-requires : tie.Need-write-requires
 write-requires c κs =
-    let made = c .before .before .before .before .before .before .before .before .before .before .before .before .before .before .before .before .before .before .before .before .before in
-    let start = made .before .before .before .before .before .before .before .before .before .before .before .before .before .before .before in
+    let made = c .before .before .before .before .before .before .before .before .before .before .before .before .before .before .before .before .before .before .before in
+    let start = made .before .before .before .before .before .before .before .before .before .before .before .before .before in
     let a = start .args in
     let s = start .pre in
-    let b : Buffers = buffers (a .old .now) (a .new .now) (a .states .now) (a .numbers .now) (a .picture .now) (a .rows .now) in
+    let b : Buffers = buffers (a .old .now) (a .new .now) (a .states .now) (a .picture .now) (a .rows .now) in
     let e = made .play .ensures in (
       s .0 .end-is,
       written (a .form) (a .file .now) (a .sizes) b (a .answers .now) (s .1 .0) (s .1 .1) _ _ _ _
@@ -23,7 +23,7 @@ write-requires c κs =
     )
 
 returns : tie.Need-returns
-returns c = ap (λ (w : World). w .lent) (c .before .before .before .before .before .before .before .before .before .before .before .before .before .before .before .before .before .before .before .before .before .before .play .ensures .0 .0)
+returns c = ap (λ (w : World). w .lent) (c .before .before .before .before .before .before .before .before .before .before .before .before .before .before .before .before .before .before .before .before .play .ensures .0 .0)
 
 pub show-in-spec : {M : Type 1} → statement M
 show-in-spec =
@@ -33,7 +33,6 @@ show-in-spec =
     (λ c κs. search needs)
     (λ c κs. search needs)
     write-requires
-    (λ c. search needs)
     (λ c. search needs)
     (λ c. search needs)
     (λ c. search needs)

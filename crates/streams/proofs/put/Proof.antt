@@ -1,5 +1,5 @@
 -- `streams::put` meets its contract, by its test.
-use Rattle.streams.specs.InnerStretch.{putAt}
+use Rattle.controller.specs.DataByte.{putAt}
 use borrow.Author.Tests.{lt-ltb, le-ltb}
 use borrow.Author.Needs.{needs}
 use Rattle.streams.proofs.put.Statement.{statement}

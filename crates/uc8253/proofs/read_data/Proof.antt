@@ -1,27 +1,27 @@
--- `uc8253::read_data` meets its contract: an advance, and then the read.
-use mathlib.Core.List.{[]}
-use Rattle.uc8253.proofs.Then.{then-yes, then-no, read-yes, read-no}
-use Rattle.controller.specs.Reading.{reading}
-use Rattle.controller.specs.TurnedBack.{turnedBack}
-use mathlib.Core.Bool.{false}
-use Rattle.base.proofs.RefusalWords.{told}
-use mathlib.Core.Path.{_∙_}
-use Rattle.controller.specs.World.{World, world, buffers}
+-- `uc8253::read_data` meets its contract: the call comes, and then the read (`call-accepted`); or it is turned back (`call-refused`).
+use Rattle.uc8253.proofs.Calls.{read-accepted, read-refused, call-accepted, call-refused}
+use Rattle.controller.specs.Ask.{newAfter}
+use Rattle.controller.specs.Ask as ask
+use mathlib.Core.Path.{refl}
 use borrow.Author.Needs.{needs}
 use Rattle.uc8253.proofs.read_data.Statement.{statement}
 use Rattle.uc8253.proofs.read_data.Tie as tie
 
 same-length : tie.Need-same-length
-same-length c = c .before .before .before .before .before .before .before .before .before .before .before .before .before .before .before .before .before .before .before .advance .kept .1 .1 .0
+same-length c = c .before .before .before .before .before .before .before .before .before .before .before .before .before .before .come .kept .1 .1 .1 .0
 
-same-length-2 : tie.Need-same-length-2
-same-length-2 c = c .before .before .before .before .before .before .before .before .before .before .before .before .before .before .before .before .before .before .before .advance .kept .1 .1 .1 .0
+same-length-3 : tie.Need-same-length-3
+same-length-3 c = c .before .before .before .before .before .before .before .before .before .before .before .before .before .before .come .kept .1 .1 .1 .1 .1 .0
+
+same-length-4 : tie.Need-same-length-4
+same-length-4 c = c .before .before .before .before .before .before .before .before .before .before .before .before .before .before .come .kept .1 .1 .1 .1 .1 .1 .0
 
 returns : tie.Need-returns
-returns c = let g = c .before .before .before .before .before .before .before .before .before .before .before .before .before .before .before .before .before .before .before .before .before .before .before .before .before .before .before .before .before .before .before .args in let w : World = world (g .p) (buffers (g .old .now) (g .new .now) (g .states .now) (g .numbers .now) (g .picture .now) (g .rows .now)) in let e = c .before .before .before .before .before .before .before .before .before .before .before .before .before .before .before .before .before .before .before .advance .ensures in let z = told {x = turnedBack false (g .at) w} (c .before .before .before .before .before .before .none .ensures) (e .1) (c .before .before .before .before .before .if1 .taken) in ((then-yes (g .at) w _ (e .0) reading _ z (c .before .before .before .read-byte .ensures .0 (buffers _ _ _ _ _ [])), e .1), read-yes (g .at) w _ (e .0) _ z (c .before .before .before .read-byte .ensures .1))
+unfolding newAfter
+returns c = (call-accepted (ask.reading (c .before .before .before .before .before .before .before .before .before .before .before .before .before .before .before .before .before .before .before .before .before .before .before .before .args .at)) refl _ _ (c .before .before .before .before .before .before .before .before .before .before .before .before .before .before .come .ensures) (c .before .before .before .before .before .before .before .before .none .ensures) (c .before .before .before .before .before .before .before .if1 .taken) (c .before .before .after-read .ensures) refl refl (c .before .before .before .before .before .lend-read .ensures), read-accepted _ _ _ (c .before .before .before .before .before .before .before .before .before .before .before .before .before .before .come .ensures .0) (c .before .before .before .before .before .before .before .before .none .ensures) (c .before .before .before .before .before .before .before .if1 .taken) (c .before .arrive .ensures) (c .read-of .ensures))
 
 returns-2 : tie.Need-returns-2
-returns-2 c = let g = c .before .before .before .before .before .before .before .before .before .before .before .before .before .before .before .before .before .before .before .before .before .before .before .before .before .before .args in let w : World = world (g .p) (buffers (g .old .now) (g .new .now) (g .states .now) (g .numbers .now) (g .picture .now) (g .rows .now)) in let e = c .before .before .before .before .before .before .before .before .before .before .before .before .before .before .advance .ensures in let z = told {x = turnedBack false (g .at) w} (c .before .none .ensures) (e .1) (c .if1 .left) in ((then-no (g .at) w _ (e .0) reading z, e .1), read-no (g .at) w z)
+returns-2 c = (call-refused (ask.reading (c .before .before .before .before .before .before .before .before .before .before .before .before .before .before .before .before .before .args .at)) refl _ _ (c .before .before .before .before .before .before .before .come .ensures) (c .before .none .ensures) (c .if1 .left), read-refused _ _ _ (c .before .before .before .before .before .before .before .come .ensures .0) (c .before .none .ensures) (c .if1 .left))
 
 pub read-data-spec : {M : Type 1} → statement M
 read-data-spec =
@@ -30,14 +30,15 @@ read-data-spec =
     (λ c κs. search needs)
     (λ c κs. search needs)
     (λ c κs. search needs)
+    (λ c κs. search needs)
+    (λ c κs. search needs)
+    (λ c κs. search needs)
     same-length
-    same-length-2
     (λ c. search needs)
-    (λ c. search needs)
-    (λ c. search needs)
+    same-length-3
+    same-length-4
     (λ c. search needs)
     returns
-    (λ c. search needs)
     (λ c. search needs)
     (λ c. search needs)
     (λ c. search needs)

@@ -1,20 +1,18 @@
--- `uc8253::set_vcom_rule` meets its contract: an advance, and then the rule.
+-- `uc8253::set_vcom_rule` meets its contract: the call comes, and then the rule (`call-accepted`); or it is turned back (`call-refused`).
+use Rattle.controller.specs.Ask.{newAfter, rowsAfter}
+use Rattle.controller.specs.Ask as ask
+use Rattle.uc8253.proofs.Calls.{call-accepted, call-refused}
 use mathlib.Core.Path.{refl}
-use Rattle.uc8253.proofs.Then.{then-yes, then-no}
-use Rattle.controller.specs.TurnedBack.{turnedBack}
-use mathlib.Core.Bool.{false}
-use Rattle.base.proofs.RefusalWords.{told}
-use Rattle.controller.specs.World.{World, world, buffers, onChip}
-use Rattle.controller.specs.Setters.{withVcomRule}
 use borrow.Author.Needs.{needs}
 use Rattle.uc8253.proofs.set_vcom_rule.Statement.{statement}
 use Rattle.uc8253.proofs.set_vcom_rule.Tie as tie
 
 returns : tie.Need-returns
-returns c = let g = c .before .before .before .before .before .before .before .before .before .before .before .before .before .before .before .before .before .before .before .before .before .before .before .before .before .before .before .args in let w : World = world (g .p) (buffers (g .old .now) (g .new .now) (g .states .now) (g .numbers .now) (g .picture .now) (g .rows .now)) in let e = c .before .before .before .before .before .before .before .before .before .before .before .before .before .before .before .advance .ensures in let z = told {x = turnedBack false (g .at) w} (c .before .before .none .ensures) (e .1) (c .before .if1 .taken) in (then-yes (g .at) w _ (e .0) (onChip (withVcomRule (g .by-frame))) _ z refl, e .1)
+unfolding newAfter rowsAfter
+returns c = call-accepted (ask.vcomRule (c .before .before .before .before .before .before .before .before .before .before .before .before .before .before .before .before .before .before .args .at) (c .before .before .before .before .before .before .before .before .before .before .before .before .before .before .before .before .before .before .args .by-frame)) refl _ _ (c .before .before .before .before .before .before .before .before .come .ensures) (c .before .before .none .ensures) (c .before .if1 .taken) (c .after-rule .ensures) refl refl refl
 
 returns-2 : tie.Need-returns-2
-returns-2 c = let g = c .before .before .before .before .before .before .before .before .before .before .before .before .before .before .before .before .before .before .before .before .before .before .before .before .before .before .args in let w : World = world (g .p) (buffers (g .old .now) (g .new .now) (g .states .now) (g .numbers .now) (g .picture .now) (g .rows .now)) in let e = c .before .before .before .before .before .before .before .before .before .before .before .before .before .before .advance .ensures in let z = told {x = turnedBack false (g .at) w} (c .before .none .ensures) (e .1) (c .if1 .left) in (then-no (g .at) w _ (e .0) (onChip (withVcomRule (g .by-frame))) z, e .1)
+returns-2 c = call-refused (ask.vcomRule (c .before .before .before .before .before .before .before .before .before .before .before .before .before .before .before .before .before .args .at) (c .before .before .before .before .before .before .before .before .before .before .before .before .before .before .before .before .before .args .by-frame)) refl _ _ (c .before .before .before .before .before .before .before .come .ensures) (c .before .none .ensures) (c .if1 .left)
 
 pub set-vcom-rule-spec : {M : Type 1} → statement M
 set-vcom-rule-spec =
@@ -22,14 +20,13 @@ set-vcom-rule-spec =
     (tie.spec
     (λ c κs. search needs)
     (λ c κs. search needs)
-    (λ c. search needs)
+    (λ c κs. search needs)
     (λ c. search needs)
     (λ c. search needs)
     (λ c. search needs)
     (λ c. search needs)
     (λ c. search needs)
     returns
-    (λ c. search needs)
     (λ c. search needs)
     (λ c. search needs)
     (λ c. search needs)

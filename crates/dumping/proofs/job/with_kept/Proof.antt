@@ -12,62 +12,47 @@ slice-aggregate-with-dump c = sym (length-replicate {A = ℕ} 1048576 0)
 
 with-dump-requires : tie.Need-with-dump-requires
 with-dump-requires c κs =
-    let start = c .before .before .before .before .before .before .before .before .before .before .before .before .before .before .before
-    .before .before .before .before .before in
+    let start = c .before .before .before .before .before .before .before .before .before .before .before .before .before .before .before .before .before .before in
     start .pre
 
 same-length : tie.Need-same-length
 same-length c =
-    let at-with-dump = c .before .before .before .before .before .before .before .before .before .before .before .before .before .before
-    .before .before in
+    let at-with-dump = c .before .before .before .before .before .before .before .before .before .before .before .before .before .before in
     at-with-dump .with-dump .kept .1 .1 .1 .1 .1 .1 .0
 
 same-length-2 : tie.Need-same-length-2
 same-length-2 c =
-    let at-with-dump = c .before .before .before .before .before .before .before .before .before .before .before .before .before .before
-    .before .before in
+    let at-with-dump = c .before .before .before .before .before .before .before .before .before .before .before .before .before .before in
     at-with-dump .with-dump .kept .1 .1 .1 .1 .1 .1 .1 .0
 
 same-length-3 : tie.Need-same-length-3
 same-length-3 c =
-    let at-with-dump = c .before .before .before .before .before .before .before .before .before .before .before .before .before .before
-    .before .before in
+    let at-with-dump = c .before .before .before .before .before .before .before .before .before .before .before .before .before .before in
     at-with-dump .with-dump .kept .1 .1 .1 .1 .1 .1 .1 .1 .1 .0
 
 same-length-4 : tie.Need-same-length-4
 same-length-4 c =
-    let at-with-dump = c .before .before .before .before .before .before .before .before .before .before .before .before .before .before
-    .before .before in
+    let at-with-dump = c .before .before .before .before .before .before .before .before .before .before .before .before .before .before in
     at-with-dump .with-dump .kept .1 .1 .1 .1 .1 .1 .1 .1 .1 .1 .0
 
 same-length-5 : tie.Need-same-length-5
 same-length-5 c =
-    let at-with-dump = c .before .before .before .before .before .before .before .before .before .before .before .before .before .before
-    .before .before in
+    let at-with-dump = c .before .before .before .before .before .before .before .before .before .before .before .before .before .before in
     at-with-dump .with-dump .kept .1 .1 .1 .1 .1 .1 .1 .1 .1 .1 .1 .0
 
 same-length-6 : tie.Need-same-length-6
 same-length-6 c =
-    let at-with-dump = c .before .before .before .before .before .before .before .before .before .before .before .before .before .before
-    .before .before in
+    let at-with-dump = c .before .before .before .before .before .before .before .before .before .before .before .before .before .before in
     at-with-dump .with-dump .kept .1 .1 .1 .1 .1 .1 .1 .1 .1 .1 .1 .1 .0
 
 same-length-7 : tie.Need-same-length-7
 same-length-7 c =
-    let at-with-dump = c .before .before .before .before .before .before .before .before .before .before .before .before .before .before
-    .before .before in
+    let at-with-dump = c .before .before .before .before .before .before .before .before .before .before .before .before .before .before in
     at-with-dump .with-dump .kept .1 .1 .1 .1 .1 .1 .1 .1 .1 .1 .1 .1 .1 .0
-
-same-length-8 : tie.Need-same-length-8
-same-length-8 c =
-    let at-with-dump = c .before .before .before .before .before .before .before .before .before .before .before .before .before .before
-    .before .before in
-    at-with-dump .with-dump .kept .1 .1 .1 .1 .1 .1 .1 .1 .1 .1 .1 .1 .1 .1 .0
 
 returns : tie.Need-returns
 returns c =
-    let at-with-dump = c .before .before .before .before .before .before .before .before .before .before .before .before .before .before
-    .before .before in
+    let at-with-dump = c .before .before .before .before .before .before .before .before .before .before .before .before .before .before in
     ran-most (at-with-dump .with-dump .kept .1 .1 .1 .1 .1 .1 .1 .1 .0 ∙ length-replicate {A = ℕ} 1048576 0)
     (at-with-dump .with-dump .ensures)
 
@@ -84,5 +69,4 @@ with-kept-spec =
     same-length-5
     same-length-6
     same-length-7
-    same-length-8
     returns)

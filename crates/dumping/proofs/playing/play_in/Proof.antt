@@ -7,60 +7,39 @@ use Rattle.dumping.proofs.playing.play_in.Tie as tie
 
 same-length-5 : tie.Need-same-length-5
 same-length-5 c =
-    let at-read-dump = c .before .before .before .before .before .before .before .before .before .before .before .before .before .before
-    .before .before .before .before .before .before .before in
-    let at-make = at-read-dump .before .before .before .before .before .before .before .before .before .before .before .before .before
-    .before .before .before .before .before .before .before .before .before .before in
+    let at-read-dump = c .before .before .before .before .before .before .before .before .before .before .before .before .before .before .before .before .before .before .before in
+    let at-make = at-read-dump .before .before .before .before .before .before .before .before .before .before .before .before .before .before .before .before .before .before .before .before in
     at-read-dump .read-dump .kept .1 .1 .1 .1 .1 .1 .0 ∙ at-make .make .kept .1 .0
 
 same-length-6 : tie.Need-same-length-6
 same-length-6 c =
-    let at-read-dump = c .before .before .before .before .before .before .before .before .before .before .before .before .before .before
-    .before .before .before .before .before .before .before in
-    let at-make = at-read-dump .before .before .before .before .before .before .before .before .before .before .before .before .before
-    .before .before .before .before .before .before .before .before .before .before in
+    let at-read-dump = c .before .before .before .before .before .before .before .before .before .before .before .before .before .before .before .before .before .before .before in
+    let at-make = at-read-dump .before .before .before .before .before .before .before .before .before .before .before .before .before .before .before .before .before .before .before .before in
     at-read-dump .read-dump .kept .1 .1 .1 .1 .1 .1 .1 .0 ∙ at-make .make .kept .1 .1 .0
 
 same-length-7 : tie.Need-same-length-7
 same-length-7 c =
-    let at-read-dump = c .before .before .before .before .before .before .before .before .before .before .before .before .before .before
-    .before .before .before .before .before .before .before in
-    let at-make = at-read-dump .before .before .before .before .before .before .before .before .before .before .before .before .before
-    .before .before .before .before .before .before .before .before .before .before in
+    let at-read-dump = c .before .before .before .before .before .before .before .before .before .before .before .before .before .before .before .before .before .before .before in
+    let at-make = at-read-dump .before .before .before .before .before .before .before .before .before .before .before .before .before .before .before .before .before .before .before .before in
     at-read-dump .read-dump .kept .1 .1 .1 .1 .1 .1 .1 .1 .0 ∙ at-make .make .kept .1 .1 .1 .0
 
 same-length-8 : tie.Need-same-length-8
 same-length-8 c =
-    let at-read-dump = c .before .before .before .before .before .before .before .before .before .before .before .before .before .before
-    .before .before .before .before .before .before .before in
-    let at-make = at-read-dump .before .before .before .before .before .before .before .before .before .before .before .before .before
-    .before .before .before .before .before .before .before .before .before .before in
+    let at-read-dump = c .before .before .before .before .before .before .before .before .before .before .before .before .before .before .before .before .before .before .before in
+    let at-make = at-read-dump .before .before .before .before .before .before .before .before .before .before .before .before .before .before .before .before .before .before .before .before in
     at-read-dump .read-dump .kept .1 .1 .1 .1 .1 .1 .1 .1 .1 .0 ∙ at-make .make .kept .1 .1 .1 .1 .0
 
 same-length-9 : tie.Need-same-length-9
 same-length-9 c =
-    let at-read-dump = c .before .before .before .before .before .before .before .before .before .before .before .before .before .before
-    .before .before .before .before .before .before .before in
-    let at-make = at-read-dump .before .before .before .before .before .before .before .before .before .before .before .before .before
-    .before .before .before .before .before .before .before .before .before .before in
+    let at-read-dump = c .before .before .before .before .before .before .before .before .before .before .before .before .before .before .before .before .before .before .before in
+    let at-make = at-read-dump .before .before .before .before .before .before .before .before .before .before .before .before .before .before .before .before .before .before .before .before in
     at-read-dump .read-dump .kept .1 .1 .1 .1 .1 .1 .1 .1 .1 .1 .0 ∙ at-make .make .kept .1 .1 .1 .1 .1 .0
-
-same-length-10 : tie.Need-same-length-10
-same-length-10 c =
-    let at-read-dump = c .before .before .before .before .before .before .before .before .before .before .before .before .before .before
-    .before .before .before .before .before .before .before in
-    let at-make = at-read-dump .before .before .before .before .before .before .before .before .before .before .before .before .before
-    .before .before .before .before .before .before .before .before .before .before in
-    at-read-dump .read-dump .kept .1 .1 .1 .1 .1 .1 .1 .1 .1 .1 .1 .0 ∙ at-make .make .kept .1 .1 .1 .1 .1 .1 .0
 
 returns : tie.Need-returns
 returns c =
-    let at-read-dump = c .before .before .before .before .before .before .before .before .before .before .before .before .before .before
-    .before .before .before .before .before .before .before in
-    let at-make = at-read-dump .before .before .before .before .before .before .before .before .before .before .before .before .before
-    .before .before .before .before .before .before .before .before .before .before in
-    let start = at-make .before .before .before .before .before .before .before .before .before .before .before .before .before .before
-    .before .before .before in
+    let at-read-dump = c .before .before .before .before .before .before .before .before .before .before .before .before .before .before .before .before .before .before .before in
+    let at-make = at-read-dump .before .before .before .before .before .before .before .before .before .before .before .before .before .before .before .before .before .before .before .before in
+    let start = at-make .before .before .before .before .before .before .before .before .before .before .before .before .before .before .before in
     let t = at-read-dump .read-dump .ensures in
     record {
       dump = t .dump;
@@ -85,5 +64,4 @@ play-in-spec =
     same-length-7
     same-length-8
     same-length-9
-    same-length-10
     returns)

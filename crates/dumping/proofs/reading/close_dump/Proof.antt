@@ -6,10 +6,8 @@ use Rattle.dumping.proofs.reading.close_dump.Tie as tie
 
 returns : tie.Need-returns
 returns c =
-    let at-close = c .before .before .before .before .before .before .before .before .before .before .before .before .before .before .before
-    .before in
-    let start = at-close .before .before .before .before .before .before .before .before .before .before .before .before .before .before
-    .before .before .before in
+    let at-close = c .before .before .before .before .before .before .before .before .before .before .before .before .before .before in
+    let start = at-close .before .before .before .before .before .before .before .before .before .before .before .before .before .before .before in
     let a = start .args in
     λ w s. record {
       dump = s .dump;
@@ -23,7 +21,6 @@ close-dump-spec =
     (tie.spec
     (λ c κs. search needs)
     (λ c κs. search needs)
-    (λ c. search needs)
     (λ c. search needs)
     (λ c. search needs)
     (λ c. search needs)

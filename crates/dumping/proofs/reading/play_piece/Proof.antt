@@ -11,8 +11,7 @@ returns : tie.Need-returns
 returns c =
     let at-if1 = c .before .before .before .before .before .before in
     let at-is-settled = at-if1 .before in
-    let at-part = at-is-settled .before .before .before .before .before .before .before .before .before .before .before .before .before
-    .before .before .before .before .before in
+    let at-part = at-is-settled .before .before .before .before .before .before .before .before .before .before .before .before .before .before .before .before in
     record {
       stands = λ d w s. at-part .part .ensures d w s;
       course-is = sym
@@ -22,8 +21,7 @@ returns c =
 returns-2 : tie.Need-returns-2
 returns-2 c =
     let at-is-settled = c .before .before .before in
-    let at-part = at-is-settled .before .before .before .before .before .before .before .before .before .before .before .before .before
-    .before .before .before .before .before in
+    let at-part = at-is-settled .before .before .before .before .before .before .before .before .before .before .before .before .before .before .before .before in
     record {
       stands = λ d w s. at-part .part .ensures d w s;
       course-is = sym
@@ -45,11 +43,9 @@ play-piece-spec =
     (λ c. search needs)
     (λ c. search needs)
     (λ c. search needs)
-    (λ c. search needs)
     returns
     (λ c κs. search needs)
     (λ c κs. search needs)
-    (λ c. search needs)
     (λ c. search needs)
     (λ c. search needs)
     (λ c. search needs)

@@ -9,48 +9,42 @@ use Rattle.events.proofs.playing.play.Tie as tie
 
 same-length-2 : tie.Need-same-length-2
 same-length-2 c =
-    let ran = c .before .before .before .before .before .before .before .before .before .before .before .before .before .before in
-    let made = ran .before .before .before .before .before .before .before .before .before .before .before .before .before .before .before .before .before .before .before .before .before .before in
+    let ran = c .before .before .before .before .before .before .before .before .before .before .before .before in
+    let made = ran .before .before .before .before .before .before .before .before .before .before .before .before .before .before .before .before .before .before .before in
     ran .run .kept .1 .1 .1 .0 ∙ made .power-on .kept .1 .0
 
 same-length-3 : tie.Need-same-length-3
 same-length-3 c =
-    let ran = c .before .before .before .before .before .before .before .before .before .before .before .before .before .before in
-    let made = ran .before .before .before .before .before .before .before .before .before .before .before .before .before .before .before .before .before .before .before .before .before .before in
+    let ran = c .before .before .before .before .before .before .before .before .before .before .before .before in
+    let made = ran .before .before .before .before .before .before .before .before .before .before .before .before .before .before .before .before .before .before .before in
     ran .run .kept .1 .1 .1 .1 .0 ∙ made .power-on .kept .1 .1 .0
 
 same-length-4 : tie.Need-same-length-4
 same-length-4 c =
-    let ran = c .before .before .before .before .before .before .before .before .before .before .before .before .before .before in
-    let made = ran .before .before .before .before .before .before .before .before .before .before .before .before .before .before .before .before .before .before .before .before .before .before in
+    let ran = c .before .before .before .before .before .before .before .before .before .before .before .before in
+    let made = ran .before .before .before .before .before .before .before .before .before .before .before .before .before .before .before .before .before .before .before in
     ran .run .kept .1 .1 .1 .1 .1 .0 ∙ made .power-on .kept .1 .1 .1 .0
 
 same-length-5 : tie.Need-same-length-5
 same-length-5 c =
-    let ran = c .before .before .before .before .before .before .before .before .before .before .before .before .before .before in
-    let made = ran .before .before .before .before .before .before .before .before .before .before .before .before .before .before .before .before .before .before .before .before .before .before in
+    let ran = c .before .before .before .before .before .before .before .before .before .before .before .before in
+    let made = ran .before .before .before .before .before .before .before .before .before .before .before .before .before .before .before .before .before .before .before in
     ran .run .kept .1 .1 .1 .1 .1 .1 .0 ∙ made .power-on .kept .1 .1 .1 .1 .0
 
 same-length-6 : tie.Need-same-length-6
 same-length-6 c =
-    let ran = c .before .before .before .before .before .before .before .before .before .before .before .before .before .before in
-    let made = ran .before .before .before .before .before .before .before .before .before .before .before .before .before .before .before .before .before .before .before .before .before .before in
+    let ran = c .before .before .before .before .before .before .before .before .before .before .before .before in
+    let made = ran .before .before .before .before .before .before .before .before .before .before .before .before .before .before .before .before .before .before .before in
     ran .run .kept .1 .1 .1 .1 .1 .1 .1 .0 ∙ made .power-on .kept .1 .1 .1 .1 .1 .0
-
-same-length-7 : tie.Need-same-length-7
-same-length-7 c =
-    let ran = c .before .before .before .before .before .before .before .before .before .before .before .before .before .before in
-    let made = ran .before .before .before .before .before .before .before .before .before .before .before .before .before .before .before .before .before .before .before .before .before .before in
-    ran .run .kept .1 .1 .1 .1 .1 .1 .1 .1 .0 ∙ made .power-on .kept .1 .1 .1 .1 .1 .1 .0
 
 returns : tie.Need-returns
 returns c =
-    let ran = c .before .before .before .before .before .before .before .before .before .before .before .before .before .before in
-    let asked = ran .before .before .before .before .before .before .before .before .before in
-    let made = asked .before .before .before .before .before .before .before .before .before .before .before .before .before in
-    let a = made .before .before .before .before .before .before .before .before .before .before .before .before .before .before .args in
-    let b : Buffers = buffers (a .old .now) (a .new .now) (a .states .now) (a .numbers .now) (a .picture .now) (a .rows .now) in
-    let h = told (asked .none .ensures) (made .power-on .ensures .1) (ran .before .before .before .before .before .before .before .before .if1 .taken) in (
+    let ran = c .before .before .before .before .before .before .before .before .before .before .before .before in
+    let asked = ran .before .before .before .before .before .before .before .before in
+    let made = asked .before .before .before .before .before .before .before .before .before .before .before in
+    let a = made .before .before .before .before .before .before .before .before .before .before .before .before .args in
+    let b : Buffers = buffers (a .old .now) (a .new .now) (a .states .now) (a .picture .now) (a .rows .now) in
+    let h = told (asked .none .ensures) (made .power-on .ensures .1) (ran .before .before .before .before .before .before .before .if1 .taken) in (
       (
         making-yes (a .config) (a .events .now) b h _ (made .power-on .ensures .0) _ (ran .run .ensures .0 .0),
         made .power-on .ensures .1,
@@ -60,9 +54,9 @@ returns c =
 
 returns-2 : tie.Need-returns-2
 returns-2 c =
-    let made = c .before .before .before .before .before .before .before .before .before .before .before .before .before .before in
-    let a = made .before .before .before .before .before .before .before .before .before .before .before .before .before .before .args in
-    let b : Buffers = buffers (a .old .now) (a .new .now) (a .states .now) (a .numbers .now) (a .picture .now) (a .rows .now) in
+    let made = c .before .before .before .before .before .before .before .before .before .before .before .before in
+    let a = made .before .before .before .before .before .before .before .before .before .before .before .before .args in
+    let b : Buffers = buffers (a .old .now) (a .new .now) (a .states .now) (a .picture .now) (a .rows .now) in
     let h = told (c .before .none .ensures) (made .power-on .ensures .1) (c .if1 .left) in (
       (making-no (a .config) (a .events .now) b h _ (made .power-on .ensures .0), made .power-on .ensures .1),
       answers-no (a .config) (a .events .now) b h (a .answers .now),
@@ -81,9 +75,7 @@ play-spec =
     same-length-4
     same-length-5
     same-length-6
-    same-length-7
     returns
-    (λ c. search needs)
     (λ c. search needs)
     (λ c. search needs)
     (λ c. search needs)

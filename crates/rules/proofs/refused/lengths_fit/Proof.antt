@@ -1,4 +1,4 @@
--- `rules::refused::lengths_fit` meets its contract, by its six tests; the product of two 16-bit numbers fits.
+-- `rules::refused::lengths_fit` meets its contract, by its five tests; the product of two 16-bit numbers fits.
 use native.Mathlib.Nat.{mul-le-mul}
 use native.Mathlib.Omega.{arith}
 use Prim.Native.Nat.{ℕ, _*_, _^_, _<_}
@@ -33,11 +33,7 @@ returns-4 c = simp (ne-eqb _ _ (c .if4 .taken), eq-eqb _ _ (c .before .if3 .left
 
 returns-5 : tie.Need-returns-5
 unfolding lengthsFit
-returns-5 c = simp (ne-eqb _ _ (c .if5 .taken), eq-eqb _ _ (c .before .if4 .left), eq-eqb _ _ (c .before .before .if3 .left), eq-eqb _ _ (c .before .before .before .if2 .left), eq-eqb _ _ (c .before .before .before .before .if1 .left))
-
-returns-6 : tie.Need-returns-6
-unfolding lengthsFit
-returns-6 c = simp (eq-eqb _ _ (c .if5 .left), eq-eqb _ _ (c .before .if4 .left), eq-eqb _ _ (c .before .before .if3 .left), eq-eqb _ _ (c .before .before .before .if2 .left), eq-eqb _ _ (c .before .before .before .before .if1 .left))
+returns-5 c = simp (eq-eqb _ _ (c .if4 .left), eq-eqb _ _ (c .before .if3 .left), eq-eqb _ _ (c .before .before .if2 .left), eq-eqb _ _ (c .before .before .before .if1 .left))
 
 pub lengths-fit-spec : {M : Type 1} → statement M
 lengths-fit-spec =
@@ -50,5 +46,4 @@ lengths-fit-spec =
     returns-2
     returns-3
     returns-4
-    returns-5
-    returns-6)
+    returns-5)

@@ -14,20 +14,20 @@ use Rattle.showing.proofs.play.play.Tie as tie
 
 slice-aggregate-play : tie.Need-slice-aggregate-play
 slice-aggregate-play c =
-    let start = c .before .before .before .before .before .before .before .before .before .before .before .before in
+    let start = c .before .before .before .before .before .before .before .before .before .before .before in
     let file = start .args .file .now in
     sym (length-take-le _ file (subst (λ (n : ℕ). n ≤ length file) (sym (start .pre .end-is)) (events-within file)))
 
 returns : tie.Need-returns
 returns c =
-    let made = c .before .before .before .before .before .before .before .before .before .before .before .before .before in
-    let tested = made .before .before .before .before .before .before .before .before .before .before .before .before in
-    let start = tested .before .before .before .before .before .before .before .before in
+    let made = c .before .before .before .before .before .before .before .before .before .before .before in
+    let tested = made .before .before .before .before .before .before .before .before .before .before .before in
+    let start = tested .before .before .before .before .before .before .before in
     let a = start .args in
-    let b : Buffers = buffers (a .old .now) (a .new .now) (a .states .now) (a .numbers .now) (a .picture .now) (a .rows .now) in
+    let b : Buffers = buffers (a .old .now) (a .new .now) (a .states .now) (a .picture .now) (a .rows .now) in
     let e = made .play .ensures in
     let n = program-number (a .file .now) (a .c) (start .pre) (a .form) _ (tested .refusal .ensures) in
-    let h = told (made .before .before .before .before .before .before .before .before .before .before .before .none .ensures) n (made .before .before .before .before .before .before .before .before .before .before .if1 .taken) in (
+    let h = told (made .before .before .before .before .before .before .before .before .before .before .none .ensures) n (made .before .before .before .before .before .before .before .before .before .if1 .taken) in (
       (
         play-yes (a .file .now) (a .c) (start .pre) (a .form) b h _ (e .0 .0),
         play-yes-number (a .file .now) (a .c) (start .pre) (a .form) b h _ (e .0 .1),
@@ -38,9 +38,9 @@ returns c =
 returns-2 : tie.Need-returns-2
 returns-2 c =
     let tested = c .before .before .before in
-    let start = tested .before .before .before .before .before .before .before .before in
+    let start = tested .before .before .before .before .before .before .before in
     let a = start .args in
-    let b : Buffers = buffers (a .old .now) (a .new .now) (a .states .now) (a .numbers .now) (a .picture .now) (a .rows .now) in
+    let b : Buffers = buffers (a .old .now) (a .new .now) (a .states .now) (a .picture .now) (a .rows .now) in
     let n = program-number (a .file .now) (a .c) (start .pre) (a .form) _ (tested .refusal .ensures) in
     let h = told (c .before .before .none .ensures) n (c .before .if1 .left) in (
       (
@@ -58,7 +58,6 @@ play-spec =
     (λ c κs. search needs)
     slice-aggregate-play
     (λ c κs. search needs)
-    (λ c. search needs)
     (λ c. search needs)
     (λ c. search needs)
     (λ c. search needs)

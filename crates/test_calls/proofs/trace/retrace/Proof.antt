@@ -12,9 +12,6 @@ slice-aggregate-retrace-in-3 c = length-part {A = ℤ} _ 8000 (pos 0) (c .before
 slice-aggregate-retrace-in-4 : tie.Need-slice-aggregate-retrace-in-4
 slice-aggregate-retrace-in-4 c = length-part {A = ℕ} _ 8000 0 (c .before .before .before .before .pixels .ensures)
 
-slice-aggregate-retrace-in-5 : tie.Need-slice-aggregate-retrace-in-5
-slice-aggregate-retrace-in-5 c = length-part {A = ℕ} _ 8000 0 (c .before .before .before .before .before .pixels .ensures)
-
 pub retrace-spec : {M : Type 1} → statement M
 retrace-spec =
     tie.close
@@ -31,8 +28,6 @@ retrace-spec =
     slice-aggregate-retrace-in-3
     (λ c. search needs)
     slice-aggregate-retrace-in-4
-    (λ c. search needs)
-    slice-aggregate-retrace-in-5
     (λ c. search needs)
     (λ c κs. search needs)
     (λ c. search needs))

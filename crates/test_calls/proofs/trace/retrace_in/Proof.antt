@@ -6,33 +6,28 @@ use Rattle.test_calls.proofs.trace.retrace_in.Tie as tie
 
 same-length : tie.Need-same-length
 same-length c =
-    let met = c .before .before .before .before .before .before .before .before .before .before .before in
-    met .meet-all .kept .1 .1 .1 .1 .0 ∙ met .before .before .before .before .before .before .before .before .before .before .before .before .before .before .before .before .before .before .before .before .before .before .power-on .kept .1 .0
+    let met = c .before .before .before .before .before .before .before .before .before in
+    met .meet-all .kept .1 .1 .1 .1 .0 ∙ met .before .before .before .before .before .before .before .before .before .before .before .before .before .before .before .before .before .before .before .power-on .kept .1 .0
 
 same-length-2 : tie.Need-same-length-2
 same-length-2 c =
-    let met = c .before .before .before .before .before .before .before .before .before .before .before in
-    met .meet-all .kept .1 .1 .1 .1 .1 .0 ∙ met .before .before .before .before .before .before .before .before .before .before .before .before .before .before .before .before .before .before .before .before .before .before .power-on .kept .1 .1 .0
+    let met = c .before .before .before .before .before .before .before .before .before in
+    met .meet-all .kept .1 .1 .1 .1 .1 .0 ∙ met .before .before .before .before .before .before .before .before .before .before .before .before .before .before .before .before .before .before .before .power-on .kept .1 .1 .0
 
 same-length-3 : tie.Need-same-length-3
 same-length-3 c =
-    let met = c .before .before .before .before .before .before .before .before .before .before .before in
-    met .meet-all .kept .1 .1 .1 .1 .1 .1 .0 ∙ met .before .before .before .before .before .before .before .before .before .before .before .before .before .before .before .before .before .before .before .before .before .before .power-on .kept .1 .1 .1 .0
+    let met = c .before .before .before .before .before .before .before .before .before in
+    met .meet-all .kept .1 .1 .1 .1 .1 .1 .0 ∙ met .before .before .before .before .before .before .before .before .before .before .before .before .before .before .before .before .before .before .before .power-on .kept .1 .1 .1 .0
 
 same-length-4 : tie.Need-same-length-4
 same-length-4 c =
-    let met = c .before .before .before .before .before .before .before .before .before .before .before in
-    met .meet-all .kept .1 .1 .1 .1 .1 .1 .1 .0 ∙ met .before .before .before .before .before .before .before .before .before .before .before .before .before .before .before .before .before .before .before .before .before .before .power-on .kept .1 .1 .1 .1 .0
+    let met = c .before .before .before .before .before .before .before .before .before in
+    met .meet-all .kept .1 .1 .1 .1 .1 .1 .1 .0 ∙ met .before .before .before .before .before .before .before .before .before .before .before .before .before .before .before .before .before .before .before .power-on .kept .1 .1 .1 .1 .0
 
 same-length-5 : tie.Need-same-length-5
 same-length-5 c =
-    let met = c .before .before .before .before .before .before .before .before .before .before .before in
-    met .meet-all .kept .1 .1 .1 .1 .1 .1 .1 .1 .0 ∙ met .before .before .before .before .before .before .before .before .before .before .before .before .before .before .before .before .before .before .before .before .before .before .power-on .kept .1 .1 .1 .1 .1 .0
-
-same-length-6 : tie.Need-same-length-6
-same-length-6 c =
-    let met = c .before .before .before .before .before .before .before .before .before .before .before in
-    met .meet-all .kept .1 .1 .1 .1 .1 .1 .1 .1 .1 .0 ∙ met .before .before .before .before .before .before .before .before .before .before .before .before .before .before .before .before .before .before .before .before .before .before .power-on .kept .1 .1 .1 .1 .1 .1 .0
+    let met = c .before .before .before .before .before .before .before .before .before in
+    met .meet-all .kept .1 .1 .1 .1 .1 .1 .1 .1 .0 ∙ met .before .before .before .before .before .before .before .before .before .before .before .before .before .before .before .before .before .before .before .power-on .kept .1 .1 .1 .1 .1 .0
 
 pub retrace-in-spec : {M : Type 1} → statement M
 retrace-in-spec =
@@ -48,5 +43,4 @@ retrace-in-spec =
     same-length-3
     same-length-4
     same-length-5
-    same-length-6
     (λ c. search needs))

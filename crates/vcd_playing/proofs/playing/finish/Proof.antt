@@ -7,14 +7,13 @@ use Rattle.vcd_playing.proofs.playing.finish.Tie as tie
 returns : tie.Need-returns
 unfolding finished
 returns c =
-    c .before .before .before .before .before .before .before .before .before .before .before .before .step .ensures .0 .0
+    c .before .before .before .before .before .before .before .before .before .before .step .ensures .0 .0
 
 pub finish-spec : {M : Type 1} → statement M
 finish-spec =
     tie.close
     (tie.spec
     (λ c κs. search needs)
-    (λ c. search needs)
     (λ c. search needs)
     (λ c. search needs)
     (λ c. search needs)

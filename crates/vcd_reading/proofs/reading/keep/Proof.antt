@@ -22,61 +22,57 @@ sub-taken c =
 
 settle-requires : tie.Need-settle-requires
 settle-requires c κs =
-    let p = c .before .before .before .before .before .before .before .before .before .before .before .before .before .before .before .before .before .before .before .put .ensures in
-    let b = begins-as (c .before .before .before .before .before .before .before .before .before .before .before .before .before .before .first .ensures) (c .before .before .before .before .before .before .before .before .before .before .before .before .before .declarations .ensures) in
-    settle-may (c .before .before .before .before .before .before .before .before .before .before .before .before .before .before .before .before .before .before .before .put .result) _ (c .before .before .before .before .before .before .before .before .before .before .before .before .before .declarations .result) b (c .before .before .before .before .before .before .before .before .before .before .next-word .result) (c .before .before .before .before .before .before .before .before .before .before .next-word .ensures ∙ ap (λ (l : List ℕ). spanAt l (c .before .before .before .before .before .before .before .before .before .before .before .before .before .declarations .result .next)) (c .before .before .before .before .before .before .before .before .before .before .before .first2 .ensures)) (omega (arith, p .count, length-puts p)) (c .before .before .before .before .before .before .before .before .if2 .taken) (c .before .before .before .before .before .before .before .before .before .before .before .before .before .before .before .before .before .before .before .before .before .before .before .before .before .before .before .before .before .before .before .args .bytes .now) _ (omega (arith, p .count))
+    let p = c .before .before .before .before .before .before .before .before .before .before .before .before .before .before .before .before .before .before .put .ensures in
+    let b = begins-as (c .before .before .before .before .before .before .before .before .before .before .before .before .before .first .ensures) (c .before .before .before .before .before .before .before .before .before .before .before .before .declarations .ensures) in
+    settle-may (c .before .before .before .before .before .before .before .before .before .before .before .before .before .before .before .before .before .before .put .result) _ (c .before .before .before .before .before .before .before .before .before .before .before .before .declarations .result) b (c .before .before .before .before .before .before .before .before .before .next-word .result) (c .before .before .before .before .before .before .before .before .before .next-word .ensures ∙ ap (λ (l : List ℕ). spanAt l (c .before .before .before .before .before .before .before .before .before .before .before .before .declarations .result .next)) (c .before .before .before .before .before .before .before .before .before .before .first2 .ensures)) (omega (arith, p .count, length-puts p)) (c .before .before .before .before .before .before .before .if2 .taken) (c .before .before .before .before .before .before .before .before .before .before .before .before .before .before .before .before .before .before .before .before .before .before .before .before .before .before .before .before .before .args .bytes .now) _ (omega (arith, p .count))
 
 same-length : tie.Need-same-length
 same-length c =
-    length-puts (c .before .before .before .before .before .before .before .before .before .before .before .before .before .before .before .before .before .before .before .before .before .before .before .before .before .before .before .before .before .before .before .before .before .put .ensures)
+    length-puts (c .before .before .before .before .before .before .before .before .before .before .before .before .before .before .before .before .before .before .before .before .before .before .before .before .before .before .before .before .before .before .put .ensures)
 
 same-length-2 : tie.Need-same-length-2
 same-length-2 c =
-    c .before .before .before .before .before .before .before .before .before .before .before .before .before .settle .kept .1 .1 .1 .1 .1 .1 .0
+    c .before .before .before .before .before .before .before .before .before .before .before .settle .kept .1 .1 .1 .1 .1 .1 .0
 
 same-length-3 : tie.Need-same-length-3
 same-length-3 c =
-    c .before .before .before .before .before .before .before .before .before .before .before .before .before .settle .kept .1 .1 .1 .1 .1 .1 .1 .0
+    c .before .before .before .before .before .before .before .before .before .before .before .settle .kept .1 .1 .1 .1 .1 .1 .1 .0
 
 same-length-4 : tie.Need-same-length-4
 same-length-4 c =
-    c .before .before .before .before .before .before .before .before .before .before .before .before .before .settle .kept .1 .1 .1 .1 .1 .1 .1 .1 .0
+    c .before .before .before .before .before .before .before .before .before .before .before .settle .kept .1 .1 .1 .1 .1 .1 .1 .1 .0
 
 same-length-5 : tie.Need-same-length-5
 same-length-5 c =
-    c .before .before .before .before .before .before .before .before .before .before .before .before .before .settle .kept .1 .1 .1 .1 .1 .1 .1 .1 .1 .0
+    c .before .before .before .before .before .before .before .before .before .before .before .settle .kept .1 .1 .1 .1 .1 .1 .1 .1 .1 .0
 
 same-length-6 : tie.Need-same-length-6
 same-length-6 c =
-    c .before .before .before .before .before .before .before .before .before .before .before .before .before .settle .kept .1 .1 .1 .1 .1 .1 .1 .1 .1 .1 .0
+    c .before .before .before .before .before .before .before .before .before .before .before .settle .kept .1 .1 .1 .1 .1 .1 .1 .1 .1 .1 .0
 
 same-length-7 : tie.Need-same-length-7
 same-length-7 c =
-    c .before .before .before .before .before .before .before .before .before .before .before .before .before .settle .kept .1 .1 .1 .1 .1 .1 .1 .1 .1 .1 .1 .0
-
-same-length-8 : tie.Need-same-length-8
-same-length-8 c =
-    c .before .before .before .before .before .before .before .before .before .before .before .before .before .settle .kept .1 .1 .1 .1 .1 .1 .1 .1 .1 .1 .1 .1 .0
+    c .before .before .before .before .before .before .before .before .before .before .before .settle .kept .1 .1 .1 .1 .1 .1 .1 .1 .1 .1 .1 .0
 
 returns-2 : tie.Need-returns-2
 returns-2 c =
-    λ d g. dump-as (c .before .before .before .before .before .before .before .before .before .before .before .before .before .settle .result .reader) _ _ _ _ (sym (whole-part d (c .before .before .before .before .before .before .before .before .before .before .before .before .before .before .before .before .before .before .before .before .before .before .before .before .before .before .before .before .before .before .before .before .before .before .before .before .before .before .before .before .before .before .before .before .before .args .bytes .now) (c .before .before .before .before .before .before .before .before .before .before .before .before .before .before .before .before .before .before .before .before .before .before .before .before .before .before .before .before .before .before .before .before .before .before .before .before .before .before .before .before .before .before .before .before .before .args .kept .now) _ (c .before .before .before .before .before .before .before .before .before .before .before .before .before .before .before .before .before .before .before .before .before .before .before .before .before .before .before .before .before .before .before .before .before .before .before .before .before .before .before .before .before .before .before .before .before .args .r .held) (c .before .before .before .before .before .before .before .before .before .before .before .before .before .before .before .before .before .before .before .before .before .before .before .before .before .before .before .before .before .before .before .before .before .put .result) g (c .before .before .before .before .before .before .before .before .before .before .before .before .before .before .before .before .before .before .before .before .before .before .before .before .before .before .before .before .before .before .before .before .before .put .ensures))) (c .before .before .before .before .before .before .before .before .before .before .before .before .before .settle .ensures)
+    λ d g. dump-as (c .before .before .before .before .before .before .before .before .before .before .before .settle .result .reader) _ _ _ _ (sym (whole-part d (c .before .before .before .before .before .before .before .before .before .before .before .before .before .before .before .before .before .before .before .before .before .before .before .before .before .before .before .before .before .before .before .before .before .before .before .before .before .before .before .before .before .args .bytes .now) (c .before .before .before .before .before .before .before .before .before .before .before .before .before .before .before .before .before .before .before .before .before .before .before .before .before .before .before .before .before .before .before .before .before .before .before .before .before .before .before .before .before .args .kept .now) _ (c .before .before .before .before .before .before .before .before .before .before .before .before .before .before .before .before .before .before .before .before .before .before .before .before .before .before .before .before .before .before .before .before .before .before .before .before .before .before .before .before .before .args .r .held) (c .before .before .before .before .before .before .before .before .before .before .before .before .before .before .before .before .before .before .before .before .before .before .before .before .before .before .before .before .before .before .put .result) g (c .before .before .before .before .before .before .before .before .before .before .before .before .before .before .before .before .before .before .before .before .before .before .before .before .before .before .before .before .before .before .put .ensures))) (c .before .before .before .before .before .before .before .before .before .before .before .settle .ensures)
 
-same-length-9 : tie.Need-same-length-9
-same-length-9 c =
+same-length-8 : tie.Need-same-length-8
+same-length-8 c =
     length-puts (c .before .before .before .before .before .before .before .before .before .before .before .before .before .put .ensures)
 
 returns-3 : tie.Need-returns-3
 returns-3 c =
-    λ d g. (keeps-all d (c .before .before .before .before .before .before .before .before .before .before .before .before .before .before .before .before .before .before .before .before .before .before .before .before .before .args .bytes .now) (c .before .before .before .before .before .before .before .before .before .before .before .before .before .before .before .before .before .before .before .before .before .before .before .before .before .args .kept .now) _ (c .before .before .before .before .before .before .before .before .before .before .before .before .before .before .before .before .before .before .before .before .before .before .before .before .before .args .r .held) (c .before .before .before .before .before .before .before .before .before .before .before .before .before .put .result) g (c .before .before .before .before .before .before .before .before .before .before .before .before .before .put .ensures) (c .if3 .taken), refl)
+    λ d g. (keeps-all d (c .before .before .before .before .before .before .before .before .before .before .before .before .before .before .before .before .before .before .before .before .before .before .before .before .args .bytes .now) (c .before .before .before .before .before .before .before .before .before .before .before .before .before .before .before .before .before .before .before .before .before .before .before .before .args .kept .now) _ (c .before .before .before .before .before .before .before .before .before .before .before .before .before .before .before .before .before .before .before .before .before .before .before .before .args .r .held) (c .before .before .before .before .before .before .before .before .before .before .before .before .before .put .result) g (c .before .before .before .before .before .before .before .before .before .before .before .before .before .put .ensures) (c .if3 .taken), refl)
 
-same-length-10 : tie.Need-same-length-10
-same-length-10 c =
+same-length-9 : tie.Need-same-length-9
+same-length-9 c =
     length-puts (c .before .before .before .before .before .before .before .before .before .before .before .before .before .before .put .ensures)
 
 returns-4 : tie.Need-returns-4
 returns-4 c =
-    λ d g. stands-as (d ++ c .before .before .before .before .before .before .before .before .before .before .before .before .before .before .before .before .before .before .before .before .before .before .before .before .before .before .args .bytes .now) _ _ _ _ (c .in-stage .ensures) (keeps-some d (c .before .before .before .before .before .before .before .before .before .before .before .before .before .before .before .before .before .before .before .before .before .before .before .before .before .before .args .bytes .now) (c .before .before .before .before .before .before .before .before .before .before .before .before .before .before .before .before .before .before .before .before .before .before .before .before .before .before .args .kept .now) _ (c .before .before .before .before .before .before .before .before .before .before .before .before .before .before .before .before .before .before .before .before .before .before .before .before .before .before .args .r .held) (c .before .before .before .before .before .before .before .before .before .before .before .before .before .before .put .result) g (c .before .before .before .before .before .before .before .before .before .before .before .before .before .before .put .ensures) (c .before .if3 .left) (c .before .before .before .before .before .before .before .before .declarations .result) (begins-as (c .before .before .before .before .before .before .before .before .before .first .ensures) (c .before .before .before .before .before .before .before .before .declarations .ensures)) (c .before .before .before .before .before .next-word .result) (c .before .before .before .before .before .next-word .ensures ∙ ap (λ (l : List ℕ). spanAt l (c .before .before .before .before .before .before .before .before .declarations .result .next)) (c .before .before .before .before .before .before .first2 .ensures)) (c .before .before .before .if2 .left))
+    λ d g. stands-as (d ++ c .before .before .before .before .before .before .before .before .before .before .before .before .before .before .before .before .before .before .before .before .before .before .before .before .before .args .bytes .now) _ _ _ _ (c .in-stage .ensures) (keeps-some d (c .before .before .before .before .before .before .before .before .before .before .before .before .before .before .before .before .before .before .before .before .before .before .before .before .before .args .bytes .now) (c .before .before .before .before .before .before .before .before .before .before .before .before .before .before .before .before .before .before .before .before .before .before .before .before .before .args .kept .now) _ (c .before .before .before .before .before .before .before .before .before .before .before .before .before .before .before .before .before .before .before .before .before .before .before .before .before .args .r .held) (c .before .before .before .before .before .before .before .before .before .before .before .before .before .before .put .result) g (c .before .before .before .before .before .before .before .before .before .before .before .before .before .before .put .ensures) (c .before .if3 .left) (c .before .before .before .before .before .before .before .before .declarations .result) (begins-as (c .before .before .before .before .before .before .before .before .before .first .ensures) (c .before .before .before .before .before .before .before .before .declarations .ensures)) (c .before .before .before .before .before .next-word .result) (c .before .before .before .before .before .next-word .ensures ∙ ap (λ (l : List ℕ). spanAt l (c .before .before .before .before .before .before .before .before .declarations .result .next)) (c .before .before .before .before .before .before .first2 .ensures)) (c .before .before .before .if2 .left))
 
 pub keep-spec : {M : Type 1} → statement M
 keep-spec =
@@ -97,10 +93,9 @@ keep-spec =
     same-length-5
     same-length-6
     same-length-7
-    same-length-8
     returns-2
-    same-length-9
+    same-length-8
     returns-3
     (λ c κs. search needs)
-    same-length-10
+    same-length-9
     returns-4)

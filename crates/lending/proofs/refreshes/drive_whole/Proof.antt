@@ -1,0 +1,22 @@
+-- `lending::refreshes::drive_whole` meets its contract: transfers over all frames act as those frames.
+use Rattle.lending.proofs.Walked.{driven-now}
+use mathlib.Core.Path.{_∙_}
+use borrow.Author.Needs.{needs}
+use Rattle.lending.proofs.refreshes.drive_whole.Statement.{statement}
+use Rattle.lending.proofs.refreshes.drive_whole.Tie as tie
+
+returns : tie.Need-returns
+returns c = c .before .drive-panel .ensures ∙ driven-now _ _ _ _ _ _ (c .before .before .before .before .before .before .before .before .before .before .before .before .before .pre .0) (c .before .before .before .before .before .before .before .transfer .ensures) (c .before .before .before .before .before .before .transfer2 .ensures) (c .before .before .before .before .before .transfer3 .ensures) (c .before .before .before .before .transfer4 .ensures) (c .before .before .before .before .before .before .before .before .before .before .before .before .before .args .p) _ _ _ _ (c .before .before .mapping .ensures) (c .before .before .before .before .before .before .before .before .before .before .before .before .before .pre .1)
+
+pub drive-whole-spec : {M : Type 1} → statement M
+drive-whole-spec =
+    tie.close
+    (tie.spec
+    (λ c κs. search needs)
+    (λ c κs. search needs)
+    (λ c κs. search needs)
+    (λ c κs. search needs)
+    (λ c κs. search needs)
+    (λ c κs. search needs)
+    (λ c. search needs)
+    returns)
