@@ -1,5 +1,7 @@
 // What the crates share: the refusals, and arithmetic on 64-bit numbers whose sums, differences and
 // products are held to 0 ..= 2^64 - 1, under the Rust's names.
+#![tactic(auto)]
+
 mod refusals;
 
 ghost use Rattle.std.specs.Prelude.{◌≡◌, ◌+◌, ◌-◌, ◌*◌, min, max};

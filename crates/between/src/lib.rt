@@ -1,5 +1,7 @@
 // The glass between frames (2026-11): what a running refresh shows after a number of its frames. A question: it
 // writes one more lent buffer, and changes nothing else.
+#![tactic(auto)]
+
 ghost use Rattle.std.specs.Prelude.{◌≡◌, List, ◌++◌, ℕ, ◌+◌, ◌*◌, ◌≤◌, length, take, drop};
 ghost use Rattle.base.specs.RefusalNumbers.{refusal_number};
 ghost use Rattle.numbers.specs.Number.{panel_numbers};

@@ -1,5 +1,7 @@
 // The capture file (document 01, "The capture program"): what turns a file back, its configuration,
 // and where its events end.
+#![tactic(auto)]
+
 mod kinds;
 mod layout;
 mod reading;

@@ -1,5 +1,7 @@
 // The chip by itself: the record after a call, and what the call tells, from the record and the call alone. Nothing
 // that is lent is looked at.
+#![tactic(auto)]
+
 ghost use Rattle.std.specs.Prelude.{◌≡◌};
 ghost use Rattle.chip.specs.InnerSteps as steps;
 ghost use Rattle.controller.specs.Ask as ask;

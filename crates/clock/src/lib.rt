@@ -1,5 +1,7 @@
 // The board's own clock: a duration in cycles of a rate, and cycles in nanoseconds. The products pass
 // 64 bits, so what is converted is divided first, and its quotient and its rest are converted apart.
+#![tactic(auto)]
+
 ghost use Rattle.std.specs.Prelude.{◌≡◌};
 ghost use Rattle.clock.specs.Clock.{cycles_of, nanos_of, bad_rate};
 

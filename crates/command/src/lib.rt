@@ -1,5 +1,7 @@
 // The command bytes (DS79's table), and below, what the model does with each: document 01, "A command
 // byte".
+#![tactic(auto)]
+
 mod kinds;
 mod sorting;
 

@@ -1,5 +1,7 @@
 // What a command byte does to the record once its call has arrived, and what it tells: it is dropped, begun
 // or executed. It asks nothing of the record.
+#![tactic(auto)]
+
 mod starts;
 
 ghost use Rattle.std.specs.Prelude.{◌≡◌};

@@ -1,5 +1,7 @@
 // The parameters of the controller and of the glass that it drives (config.rs): the X3's own
 // values, and what turns a configuration back.
+#![tactic(auto)]
+
 ghost use Rattle.std.specs.Prelude.{◌≡◌};
 ghost use Rattle.config.specs.X3.{ds53, periods_to, x3_panel, x3_timing, x3, x3_uc8279d};
 ghost use Rattle.base.specs.RefusalNumbers.{refusal_number};

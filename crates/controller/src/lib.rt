@@ -3,6 +3,8 @@
 //
 // RAM, glass, picture and diagnostics lie in lent buffers; the decoded tables of a refresh stand
 // beside the operation, since an enum holds no array.
+#![tactic(auto)]
+
 mod drives;
 mod notes;
 mod reads;

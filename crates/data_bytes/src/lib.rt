@@ -1,5 +1,7 @@
 // What a data byte and a read do to the record once their call has arrived, what they tell, and where a data byte
 // puts its pixels. Nothing is asked of the record.
+#![tactic(auto)]
+
 mod pixels;
 mod reading;
 

@@ -1,5 +1,7 @@
 // What the controller reports (diagnostic.rs): a firmware's use of the chip that the datasheet does
 // not allow, leaves undefined, or the model does not carry out; and the five numbers stored of it.
+#![tactic(auto)]
+
 ghost use Rattle.std.specs.Prelude.{◌≡◌};
 ghost use Rattle.diagnostic.specs.Row.{row_numbers};
 

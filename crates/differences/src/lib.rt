@@ -1,5 +1,7 @@
 // Two captures compared: where two lists differ first, in how many entries and by how much, and the
 // lines that say so.
+#![tactic(auto)]
+
 mod distances;
 mod finding;
 mod lines;

@@ -1,4 +1,6 @@
 // The end of a refresh over planes and states (mod.rs: finish): no buffer of numbers, a row at a time.
+#![tactic(auto)]
+
 ghost use Rattle.std.specs.Prelude.{◌≡◌, ◌++◌, take, drop};
 ghost use Rattle.numbers.specs.Number.{panel_numbers};
 ghost use Rattle.pixels.specs.Drive.{driven};

@@ -2,6 +2,8 @@
 // lines, or its last picture as a file that any viewer opens.
 //
 // What the program says of a dump that is turned back stands here too.
+#![tactic(auto)]
+
 mod finding;
 mod job;
 mod pieces;

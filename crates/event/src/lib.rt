@@ -2,6 +2,8 @@
 // value. What it does to the controller is in specs/.
 //
 // Places past the end of the bytes read as 0.
+#![tactic(auto)]
+
 ghost use Rattle.std.specs.Prelude.{◌≡◌, ◌+◌, ◌*◌, ◌<◌};
 ghost use Rattle.event.specs.Events as rule;
 

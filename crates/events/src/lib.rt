@@ -3,6 +3,8 @@
 //
 // No function has a condition: places past the end of the bytes read as 0, and an answer for which
 // there is no room is not kept.
+#![tactic(auto)]
+
 mod playing;
 mod steps;
 

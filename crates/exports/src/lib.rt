@@ -1,6 +1,8 @@
 // The controller for programs in other languages: the record crosses as numbers and plain structs,
 // handed over and taken back, and each call is the one of `uc8253`, `events` or `forecasting` that it
 // passes on.
+#![tactic(auto)]
+
 mod handed;
 mod needs;
 mod taken;

@@ -1,4 +1,6 @@
 // Files by name: read, or written to. What fails is said on standard error by name.
+#![tactic(auto)]
+
 mod reading;
 mod writing;
 

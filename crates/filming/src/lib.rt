@@ -1,5 +1,7 @@
 // The glass between the frames of the refresh that a capture ends in (2026-11): one picture, or a film of them, as
 // files that any viewer opens.
+#![tactic(auto)]
+
 mod pictures;
 
 ghost use Rattle.std.specs.Prelude.{◌≡◌, ◌++◌, ◌≤◌};

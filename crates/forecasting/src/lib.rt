@@ -1,6 +1,8 @@
 // What a capture will need (request 2026-04): its refreshes, its diagnostics, the deadline that it leaves and the
 // frames that it drives, from the file alone. The record goes from event to event; there are no planes, no states
 // and no picture.
+#![tactic(auto)]
+
 mod needs;
 mod passing;
 mod steps;

@@ -1,4 +1,6 @@
 // What a capture will need, as a line of text.
+#![tactic(auto)]
+
 ghost use Rattle.text.specs.Text.{Puts};
 ghost use Rattle.forecasting.specs.Forecast.{needs_in};
 ghost use Rattle.foretelling.specs.Lines as rule;

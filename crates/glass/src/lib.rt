@@ -3,6 +3,8 @@
 //
 // A state lies between black (0) and white (the full swing). A frame adds its drive and holds the
 // sum to that range; a run of frames is again one translation that is held, a `Transfer`.
+#![tactic(auto)]
+
 ghost use Rattle.std.specs.Prelude.{◌≡◌, ◌≤◌, ◌<◌, ◌+◌, ◌-◌, ◌*◌, ◌%◌, ◌^◌, min};
 ghost use Rattle.base.specs.Word.{top};
 ghost use Rattle.glass.specs.Gray.{level_of, gray_of, top_of, gray_at};

@@ -1,4 +1,6 @@
 // The bytes of an input, read to its end: a read that fails is told from the end.
+#![tactic(auto)]
+
 ghost use Rattle.std.specs.Prelude.{◌≡◌, take};
 ghost use Rattle.input.specs.Within.{Within};
 

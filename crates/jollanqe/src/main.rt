@@ -1,5 +1,7 @@
 // One program with a word for each job: `jollanqe help` says all of them. With no word it reads jobs
 // from standard input, one a line.
+#![tactic(auto)]
+
 mod comparing;
 mod forecasts;
 mod help;

@@ -1,5 +1,7 @@
 // What a call does to what is lent: it is turned back, by 6, 5 or 7, with every entry as it was; or a refresh that
 // it ends drives the glass, new is copied to old, and the call's own goes into the planes and the rows.
+#![tactic(auto)]
+
 mod refreshes;
 
 ghost use Rattle.std.specs.Prelude.{◌≡◌};

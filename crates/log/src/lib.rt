@@ -1,5 +1,7 @@
 // The stored rows (mod.rs: report, take_diagnostics): five numbers a diagnostic in a lent buffer of
 // 1,024 rows, and a count of those that found no room.
+#![tactic(auto)]
+
 ghost use Rattle.std.specs.Prelude.{◌≡◌, ◌<◌, set};
 ghost use Rattle.log.specs.Log.{reported, rows_after, put_row, log_emptied};
 

@@ -1,5 +1,7 @@
 // The number of each pixel of the panel: the table that drives it in a refresh (mod.rs,
 // `ram_pixel` and `luts_of_pixels`).
+#![tactic(auto)]
+
 ghost use Rattle.std.specs.Prelude.{◌≡◌, not, ℕ, ◌<◌, ◌≤◌, ◌+◌, ◌-◌, ◌*◌, ◌^◌, min, max, length};
 ghost use Rattle.base.specs.Pick.{pick};
 ghost use Rattle.numbers.specs.Filled.{filled};

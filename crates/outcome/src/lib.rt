@@ -1,4 +1,6 @@
 // What a file of the collector comes to: no events, refused, or played.
+#![tactic(auto)]
+
 ghost use Rattle.std.specs.Prelude.{◌≡◌};
 ghost use Rattle.outcome.specs.Came.{came_by, panel_came};
 

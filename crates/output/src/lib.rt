@@ -3,6 +3,8 @@
 //
 // It is cut into units, a line or a row each, and a text of any length goes through a lent buffer
 // part by part: each part is as many whole units as end before the buffer does.
+#![tactic(auto)]
+
 mod lines;
 mod parts;
 mod pgm;

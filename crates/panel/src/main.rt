@@ -1,5 +1,7 @@
 // The capture program: a capture on standard input, and on standard output what the controller and
 // its glass made of it, `refused` and a number, or `no events` for an empty file.
+#![tactic(auto)]
+
 use input::{Input, front, read_all};
 use libc::{STDERR_FILENO, STDIN_FILENO};
 use showing::{INPUT, show_panel};

@@ -1,5 +1,7 @@
 // The glass over lent buffers (mod.rs: new, finish): the states and the picture, an entry for each
 // pixel.
+#![tactic(auto)]
+
 ghost use Rattle.std.specs.Prelude.{◌≡◌, true, ◌*◌, ◌≤◌, min, ltb, length, get_or, replicate};
 ghost use Rattle.base.specs.Integer.{up};
 ghost use Rattle.base.specs.Pick.{pick};

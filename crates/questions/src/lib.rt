@@ -1,4 +1,6 @@
 // The questions, which change nothing, and the taking of the rows.
+#![tactic(auto)]
+
 ghost use Rattle.std.specs.Prelude.{◌≡◌, true, false, ℕ};
 ghost use Rattle.base.specs.RefusalNumbers.{refusal_number};
 ghost use Rattle.controller.specs.World.{Buffers, world};

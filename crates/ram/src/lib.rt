@@ -1,6 +1,8 @@
 // The two planes of the RAM (mod.rs, `Ram`): 800 × 600 bits each, in lent bytes, 100 a row, the
 // highest bit of a byte leftmost. A slice of any length is taken: past its end nothing is written
 // and 0 is read.
+#![tactic(auto)]
+
 ghost use Rattle.std.specs.Prelude.{◌≡◌, ◌+◌, ◌-◌, ◌%◌, ◌<◌, ◌≤◌, min, length, get_or, set};
 ghost use Rattle.ram.specs.Plane.{place as place_of, bit_at};
 ghost use Rattle.ram.specs.Found.{ram_bit};

@@ -1,5 +1,7 @@
 // The registers of the controller (mod.rs): their reset values, the areas and flags that they give,
 // and below, a file each, the register bytes and the LUTs.
+#![tactic(auto)]
+
 mod areas;
 mod bytes;
 mod flags;

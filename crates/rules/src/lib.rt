@@ -1,5 +1,7 @@
 // The rules that look at one part of the record alone: what turns a call back, what is reported, what
 // a data byte is for, what is read; and the small changes of the record that several calls make.
+#![tactic(auto)]
+
 mod changes;
 mod notes;
 mod reads;

@@ -1,4 +1,6 @@
 // A record's picture at a top of its own, drawn from its states, to a descriptor (2026-03).
+#![tactic(auto)]
+
 ghost use Rattle.std.specs.Prelude.{◌≡◌, ◌-◌, ◌≤◌, replicate};
 ghost use Rattle.glass.specs.Gray.{top_of};
 ghost use Rattle.output.specs.Units.{wide_of};

@@ -2,6 +2,8 @@
 // file that any viewer opens.
 //
 // The text goes through a buffer part by part, so that an output takes few writes.
+#![tactic(auto)]
+
 mod play;
 mod write;
 

@@ -1,5 +1,7 @@
 // Pixel bytes one after the other: with nothing under way, a run of data bytes of 10 or 13 changes a
 // plane, the cursor, the count and the clock, and touches the record once, at its end.
+#![tactic(auto)]
+
 ghost use Rattle.std.specs.Prelude.{◌≡◌, ◌≤◌};
 ghost use Rattle.controller.specs.World.{world};
 ghost use Rattle.controller.specs.Lent.{before, after};

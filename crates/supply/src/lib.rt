@@ -1,4 +1,6 @@
 // The supply levels of PWR (waveform.rs), as the printed list has them.
+#![tactic(auto)]
+
 ghost use Rattle.std.specs.Prelude.{◌≡◌};
 ghost use Rattle.supply.specs.Supply.{supply_level, Listed};
 

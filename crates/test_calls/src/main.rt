@@ -1,6 +1,8 @@
 // Replays traces with the Rust's answers after every event (oracle/README.md, "The fixed sample",
 // has the layout of standard input) and compares each answer, call by call. Prints a line for each
 // of the first answers that differ, and a last line with the counts.
+#![tactic(auto)]
+
 mod answers;
 mod digest;
 mod report;

@@ -1,5 +1,7 @@
 // Captures one after the other on standard input, each behind its length in four bytes, the lowest
 // first; on standard output what `panel` writes for each.
+#![tactic(auto)]
+
 ghost use Rattle.std.specs.Prelude.{◌≤◌};
 
 use base::{TOP, least};

@@ -1,6 +1,8 @@
 // Replays stored answers of the Rust (oracle/README.md says how they are made) and of tests/greys.py:
 // standard input holds tables, each a count and then so many rows. Prints a line for each row that
 // differs, and a last line for each table.
+#![tactic(auto)]
+
 mod print;
 mod refresh;
 mod table;

@@ -1,4 +1,6 @@
 // Decimal numbers out of a text, for programs that replay stored answers.
+#![tactic(auto)]
+
 mod scan;
 
 ghost use Rattle.std.specs.Prelude.{◌≡◌};

@@ -1,5 +1,7 @@
 // Text gathered in a lent buffer, of which the first `held` bytes are the text so far. What finds no
 // room is left out; each function answers how many bytes are held then.
+#![tactic(auto)]
+
 ghost use Rattle.std.specs.Prelude.{◌≡◌, [], ◌∷◌, ◌+◌, ◌≤◌, ◌<◌, length};
 ghost use Rattle.std.proofs.Math.Seq.{paste};
 ghost use Rattle.text.specs.Text as rule;

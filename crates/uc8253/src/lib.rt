@@ -4,6 +4,8 @@
 //
 // A refused making gives back a record of zeros. No call has a condition: every command, data byte,
 // read, reset edge and time is accepted on every record that is not foreign.
+#![tactic(auto)]
+
 ghost use Rattle.controller.specs.Ask as ask;
 ghost use Rattle.controller.specs.Lent.{Called, Answers};
 

@@ -1,4 +1,6 @@
 // The five signals of the bus, and the byte that is under way on it.
+#![tactic(auto)]
+
 ghost use Rattle.std.specs.Prelude.{◌≡◌};
 ghost use Rattle.base.specs.Pick.{pick};
 ghost use Rattle.vcd_bus.specs.Signals as rule;

@@ -1,5 +1,7 @@
 // The declarations of a Value Change Dump (IEEE 1364): the time scale, and the codes of the five
 // signals.
+#![tactic(auto)]
+
 mod codes;
 mod commands;
 mod declared;

@@ -1,5 +1,7 @@
 // A dump through the controller: the configuration's making, and then the events, one call after the
 // other.
+#![tactic(auto)]
+
 mod playing;
 mod words;
 

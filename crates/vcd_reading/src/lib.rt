@@ -2,6 +2,8 @@
 //
 // Two lent buffers are the reader's own: one keeps the dump's first bytes, which must hold its
 // declarations and a word behind them; the other a word that a cut leaves open.
+#![tactic(auto)]
+
 mod carrying;
 mod closing;
 mod reader;

@@ -1,5 +1,7 @@
 // The words of a dump's refusals, for a person who must find the fault in it: the first word after
 // which it is malformed, and the line that it stands in; the signal that is missing.
+#![tactic(auto)]
+
 mod finding;
 mod wording;
 

@@ -1,5 +1,7 @@
 // The simulation of a Value Change Dump (IEEE 1364): its times and value changes, and the events on
 // the bus that they make.
+#![tactic(auto)]
+
 mod body;
 mod change;
 mod codes;

@@ -1,5 +1,7 @@
 // What the words of a Value Change Dump (IEEE 1364) say: times, sizes, values, and which signal a
 // reference names.
+#![tactic(auto)]
+
 mod levels;
 mod names;
 mod numbers;

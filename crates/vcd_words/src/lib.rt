@@ -1,4 +1,6 @@
 // The words of a Value Change Dump (IEEE 1364): what stands between white space.
+#![tactic(auto)]
+
 ghost use Rattle.std.specs.Prelude.{◌≡◌, ◌≤◌, length};
 ghost use Rattle.vcd_words.specs.Words as rule;
 ghost use Rattle.vcd_words.specs.Places as place;

@@ -4,6 +4,8 @@
 // counts of the four phases, and how many times the group runs. The waveform ends after the seventh
 // group, or at the first group that runs no time or has no frame. A pixel's voltage in a phase is
 // its source level less VCOM's in the same phase.
+#![tactic(auto)]
+
 ghost use Rattle.std.specs.Prelude.{◌≡◌, List, ℕ, ◌<◌, ◌≤◌, ◌-◌, ◌/◌, ◌*◌, min, length, take, drop, replicate, ℤ};
 ghost use Rattle.base.specs.Word.{top};
 ghost use Rattle.glass.specs.Transfer.{Acts};
