@@ -8,7 +8,7 @@ use config::Uc8253Config;
 
 // What turns the file back, if anything does; its configuration; where its events end, which is
 // never past the file's end.
-#[derive(Drop)]
+#[derive(Clone, Copy)]
 pub struct Capture {
     pub refused: Refusal,
     pub config: Uc8253Config,

@@ -1,7 +1,7 @@
 // The kinds of commands, and how many data bytes each takes.
 
 // How many parameter bytes a command takes.
-#[derive(Drop)]
+#[derive(Clone, Copy)]
 pub enum Params {
     Exactly(u16),
     Between(u16, u16),
@@ -10,7 +10,7 @@ pub enum Params {
 }
 
 // What the model does with a command byte.
-#[derive(Drop)]
+#[derive(Clone, Copy)]
 pub enum Kind {
     Write(Params),
     // A command whose data bytes are read.

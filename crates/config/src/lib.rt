@@ -32,7 +32,7 @@ const MILLISECOND: u64 = 1_000_000;
 const MOST_SWING: u64 = 0x7FFF_FFFF_FFFF_FFFF;
 
 // Which controller of the X3's two batches the model plays.
-#[derive(Drop)]
+#[derive(Clone, Copy)]
 pub enum Variant {
     // The first batch: its commands have the layout of the UC8179 (DS79), it drives nothing on a
     // read, and `CDI` takes two bytes.
@@ -44,7 +44,7 @@ pub enum Variant {
 
 // How the glass's pixels sit on the controller's lines.
 #[repr(C)]
-#[derive(Drop)]
+#[derive(Clone, Copy)]
 pub struct Uc8253Geometry {
     // Sources wired to the glass, from S0: its width.
     pub sources: u16,
@@ -76,7 +76,7 @@ impl Uc8253Geometry {
 // How long each operation keeps `BUSY_N` low, in nanoseconds, and the frame period of each `PLL`
 // code. Every value that no datasheet gives is an ASSUMPTION.
 #[repr(C)]
-#[derive(Drop)]
+#[derive(Clone, Copy)]
 pub struct Uc8253Timing {
     // `PON` until every supply is up: about 127 ms, measured on an X3.
     pub power_on: u64,
@@ -135,7 +135,7 @@ impl Uc8253Timing {
 }
 
 // Everything that a model is built from.
-#[derive(Drop)]
+#[derive(Clone, Copy)]
 pub struct Uc8253Config {
     pub variant: Variant,
     pub panel: Uc8253Geometry,

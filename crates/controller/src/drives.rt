@@ -1,6 +1,6 @@
 // What a call does to the glass.
 // Nothing; a refresh ends by itself and drives all its frames; reset cuts it after its first frames.
-#[derive(Drop)]
+#[derive(Clone, Copy)]
 pub enum Drive {
     Nothing,
     Whole,

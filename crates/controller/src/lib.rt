@@ -24,7 +24,7 @@ pub use uses::Use;
 use waveform::Waveform;
 
 // The reset line and deep sleep.
-#[derive(Drop)]
+#[derive(Clone, Copy)]
 pub enum Power {
     Running,
     // `DSLP` with its code: every command is dropped until `RST_N` goes low.
@@ -33,7 +33,7 @@ pub enum Power {
     InReset,
 }
 
-#[derive(Drop)]
+#[derive(Clone, Copy)]
 pub struct Mode {
     pub power: Power,
     // `PON` brought the supplies up and no `POF` took them down.
@@ -45,7 +45,7 @@ pub struct Mode {
 }
 
 // A command whose data bytes are taken, counted or read.
-#[derive(Drop)]
+#[derive(Clone, Copy)]
 pub struct Active {
     pub command: u8,
     pub kind: Kind,
@@ -60,7 +60,7 @@ pub struct Active {
 }
 
 // The command that the data bytes belong to.
-#[derive(Drop)]
+#[derive(Clone, Copy)]
 pub enum Current {
     // No command since the last reset: a data byte is reported once.
     Idle,
@@ -69,20 +69,20 @@ pub enum Current {
     Active(Active),
 }
 
-#[derive(Drop)]
+#[derive(Clone, Copy)]
 pub struct Stage {
     pub current: Current,
 }
 
 // A refresh under way: the RAM that is driven, for `N2OCP`, and whether a pixel is left alone.
-#[derive(Drop)]
+#[derive(Clone, Copy)]
 pub struct Refresh {
     pub area: Area,
     pub kind: RefreshKind,
 }
 
 // What keeps `BUSY_N` low.
-#[derive(Drop)]
+#[derive(Clone, Copy)]
 pub enum Work {
     Nothing,
     PowerOn,
@@ -94,7 +94,7 @@ pub enum Work {
     Refresh(Refresh),
 }
 
-#[derive(Drop)]
+#[derive(Clone, Copy)]
 pub struct Operation {
     pub work: Work,
     pub started: u64,
@@ -102,14 +102,14 @@ pub struct Operation {
 }
 
 // When what runs ends.
-#[derive(Drop)]
+#[derive(Clone, Copy)]
 pub enum Due {
     Never,
     At(u64),
 }
 
 // The X3's controller and the head of the picture that its glass shows.
-#[derive(Drop)]
+#[derive(Clone, Copy)]
 pub struct Uc8253 {
     pub config: Uc8253Config,
     pub regs: Registers,
@@ -126,7 +126,7 @@ pub struct Uc8253 {
 }
 
 // What a call gives back: the record after it, and what turned it back, if anything did.
-#[derive(Drop)]
+#[derive(Clone, Copy)]
 pub struct Answer {
     pub chip: Uc8253,
     pub refused: Refusal,

@@ -2,14 +2,14 @@
 use diagnostic::DiagnosticKind;
 
 // A diagnostic, or none.
-#[derive(Drop)]
+#[derive(Clone, Copy)]
 pub enum Note {
     Quiet,
     Told(DiagnosticKind),
 }
 
 // What a call tells, in order: at most two diagnostics.
-#[derive(Drop)]
+#[derive(Clone, Copy)]
 pub struct Notes {
     pub first: Note,
     pub second: Note,

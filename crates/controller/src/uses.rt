@@ -1,5 +1,5 @@
 // What a data byte of an active command is for.
-#[derive(Drop)]
+#[derive(Clone, Copy)]
 pub enum Use {
     // Beyond the largest count, for the first time.
     Extra,

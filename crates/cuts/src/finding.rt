@@ -13,14 +13,14 @@ use rules::drive_at;
 const ASSERTED: u8 = 1;
 
 // The clock at which reset was asserted, the whole frames until then, and those of the whole refresh.
-#[derive(Drop)]
+#[derive(Clone, Copy)]
 pub struct Cut {
     pub at: u64,
     pub frames: u64,
     pub of: u64,
 }
 
-#[derive(Drop)]
+#[derive(Clone, Copy)]
 pub enum Found {
     Cut(Cut),
     Nothing,

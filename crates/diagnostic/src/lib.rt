@@ -19,7 +19,7 @@ pub const KWR: u8 = 2;
 pub const BOOSTER: u8 = 3;
 
 // What happened.
-#[derive(Drop)]
+#[derive(Clone, Copy)]
 pub enum DiagnosticKind {
     // A command byte that the controller does not have; its data are ignored.
     UnknownCommand {

@@ -6,7 +6,7 @@ ghost use Rattle.differences.specs.Apart as rule;
 use crate::places::shorter;
 use base::greatest;
 
-#[derive(Drop)]
+#[derive(Clone, Copy)]
 pub struct Spread {
     pub count: u64,
     pub most: u64,

@@ -8,7 +8,7 @@ use capture::EVENT_BYTES;
 // The numbers of a diagnostic row.
 pub(crate) const ROW: usize = 5;
 
-#[derive(Drop)]
+#[derive(Clone, Copy)]
 pub enum Finding {
     Event(usize),
     Row(usize),

@@ -2,7 +2,7 @@
 ghost use Rattle.std.specs.Prelude.{◌≡◌, min};
 ghost use Rattle.differences.specs.Places.{first_place};
 
-#[derive(Drop)]
+#[derive(Clone, Copy)]
 pub enum Place {
     // The place of the entry, from 0.
     At(usize),

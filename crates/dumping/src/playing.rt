@@ -13,7 +13,7 @@ use vcd_playing::make;
 use vcd_reading::Ending;
 
 // What a configuration and a dump came to.
-#[derive(Drop)]
+#[derive(Clone, Copy)]
 pub enum Came {
     // By the first refusal that is met, if any is.
     Judged(Refusal),

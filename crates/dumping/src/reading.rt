@@ -13,7 +13,7 @@ use vcd_reading::{Ending, Reader, Stage, close, part, start};
 use vcd_reasons::{newlines, unsignalled};
 
 // How far reading got.
-#[derive(Drop)]
+#[derive(Clone, Copy)]
 enum Course {
     // There may be more.
     On,
@@ -27,7 +27,7 @@ enum Course {
 
 // The record and the reader after some of a dump, how many newlines that has, and how many bytes of
 // the text say why it is malformed, if it is known to be.
-#[derive(Drop)]
+#[derive(Clone, Copy)]
 struct Gone {
     chip: Uc8253,
     reader: Reader,

@@ -10,7 +10,7 @@ ghost use Rattle.event.specs.Events as rule;
 use capture::{EVENT_BYTES, byte, little};
 
 // What happens at a time; what the value means, if anything, depends on the kind.
-#[derive(Drop)]
+#[derive(Clone, Copy)]
 pub struct Event {
     pub time: u64,
     pub kind: u8,

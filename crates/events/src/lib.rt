@@ -24,7 +24,7 @@ pub use steps::{Stepped, read_number, step};
 use streams::stream;
 
 // The record after a run, and the first refusal of an event, if there was one.
-#[derive(Drop)]
+#[derive(Clone, Copy)]
 pub struct Ran {
     pub chip: Uc8253,
     pub refused: Refusal,
@@ -62,7 +62,7 @@ fn mark(answers: &mut [u16], from: usize, count: usize)
 }
 
 // The record after some events, their first refusal, and how many there were.
-#[derive(Drop)]
+#[derive(Clone, Copy)]
 struct Went {
     chip: Uc8253,
     refused: Refusal,

@@ -11,7 +11,7 @@ use controller::Uc8253;
 use uc8253::power_on;
 
 // The record after the last event, and what turned the making back, if anything did.
-#[derive(Drop)]
+#[derive(Clone, Copy)]
 pub struct Played {
     pub chip: Uc8253,
     pub refused: Refusal,

@@ -12,7 +12,7 @@ use uc8253::{
 };
 
 // The record after an event, what turned it back, if anything did, and what a read gave.
-#[derive(Drop)]
+#[derive(Clone, Copy)]
 pub struct Stepped {
     pub chip: Uc8253,
     pub refused: Refusal,

@@ -15,7 +15,7 @@ use registers::{Area, Luts, Registers};
 use waveform::Waveform;
 
 #[repr(C)]
-#[derive(Drop)]
+#[derive(Clone, Copy)]
 pub struct HandedActive {
     pub received: u16,
     pub read: u16,
@@ -30,7 +30,7 @@ pub struct HandedActive {
 }
 
 #[repr(C)]
-#[derive(Drop)]
+#[derive(Clone, Copy)]
 pub struct HandedOperation {
     pub started: u64,
     pub until: u64,
@@ -40,7 +40,7 @@ pub struct HandedOperation {
 }
 
 #[repr(C)]
-#[derive(Drop)]
+#[derive(Clone, Copy)]
 pub struct HandedImage {
     pub generation: u64,
     pub started: u64,
@@ -52,7 +52,7 @@ pub struct HandedImage {
 }
 
 #[repr(C)]
-#[derive(Drop)]
+#[derive(Clone, Copy)]
 pub struct Handed {
     pub panel: Uc8253Geometry,
     pub optics: Optics,
@@ -106,7 +106,7 @@ fn refresh_number(kind: RefreshKind) -> u8
 }
 
 // The numbers of a command's parameters.
-#[derive(Drop)]
+#[derive(Clone, Copy)]
 struct HandedParams {
     params: u8,
     least: u16,
@@ -136,7 +136,7 @@ fn params_numbers(params: Params) -> HandedParams
 }
 
 // The numbers of a command's kind.
-#[derive(Drop)]
+#[derive(Clone, Copy)]
 struct HandedKind {
     kind: u8,
     params: HandedParams,
@@ -210,7 +210,7 @@ fn no_active() -> HandedActive
 }
 
 // The numbers of the command under way.
-#[derive(Drop)]
+#[derive(Clone, Copy)]
 struct HandedCurrent {
     current: u8,
     active: HandedActive,
@@ -236,7 +236,7 @@ fn current_numbers(current: Current) -> HandedCurrent
 }
 
 // The numbers of what keeps `BUSY_N` low.
-#[derive(Drop)]
+#[derive(Clone, Copy)]
 struct HandedWork {
     work: u8,
     area: Area,

@@ -41,7 +41,7 @@ use uc8253::{
 // refusal, 0 where the call was taken. The answer is
 // what a read gave, 256 for none, and 257 for a call that reads nothing; of a taking, how many rows.
 #[repr(C)]
-#[derive(Drop)]
+#[derive(Clone, Copy)]
 pub struct Given {
     pub chip: Handed,
     pub refused: u8,
@@ -50,7 +50,7 @@ pub struct Given {
 
 // The answer to a question, where there is one, and the number of the refusal.
 #[repr(C)]
-#[derive(Drop)]
+#[derive(Clone, Copy)]
 pub struct Asked {
     pub value: u64,
     pub refused: u8,

@@ -10,7 +10,7 @@ use forecasting::Forecast;
 // Refreshes ended, cut ones too; rows stored and dropped; the deadline that is left, known where
 // something runs; frames driven; and the number of the refusal. A refused capture needs nothing.
 #[repr(C)]
-#[derive(Drop)]
+#[derive(Clone, Copy)]
 pub struct Needs {
     pub ended: u64,
     pub dropped: u64,

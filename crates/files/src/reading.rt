@@ -5,7 +5,7 @@ ghost use Rattle.files.specs.Reading as rule;
 use input::{Input, read_all};
 use libc::STDIN_FILENO;
 
-#[derive(Drop)]
+#[derive(Clone, Copy)]
 pub enum Reading {
     // A line of so many bytes, without its end.
     Line(usize),
@@ -16,7 +16,7 @@ pub enum Reading {
 
 // What reading a file gave: so many bytes at the buffer's start; and how many there are in all,
 // where that is more.
-#[derive(Drop)]
+#[derive(Clone, Copy)]
 pub enum Got {
     Bytes(usize, u64),
     // It could not be opened or read, which was said.

@@ -28,14 +28,14 @@ const SPANS: u64 = 99;
 
 // What is wanted: the picture after so many frames; or a film, with so many frames from picture to picture, 0 where that is
 // not said.
-#[derive(Drop)]
+#[derive(Clone, Copy)]
 pub enum Frames {
     Still(Form, u64),
     Film(u64),
 }
 
 // How far the writing got.
-#[derive(Drop)]
+#[derive(Clone, Copy)]
 pub enum Ended {
     Whole,
     // A write to the descriptor failed.

@@ -25,7 +25,7 @@ use questions::due_of;
 use steps::{event_after, event_drive, frames_in};
 
 // The record after some events, the frames that they drove, and how many events there were.
-#[derive(Drop)]
+#[derive(Clone, Copy)]
 struct Went {
     chip: Uc8253,
     frames: u64,

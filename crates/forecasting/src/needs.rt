@@ -4,7 +4,7 @@ use controller::Due;
 
 // What turned the file back, if anything did; refreshes ended, cut ones too; rows stored and dropped; the end of what
 // runs after the last event; frames driven.
-#[derive(Drop)]
+#[derive(Clone, Copy)]
 pub struct Forecast {
     pub refused: Refusal,
     pub ended: u64,

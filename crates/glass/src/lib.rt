@@ -16,7 +16,7 @@ use base::{TOP, greatest, least, saturating_add, saturating_sub};
 
 // How the glass answers the waveform.
 #[repr(C)]
-#[derive(Drop)]
+#[derive(Clone, Copy)]
 pub struct Optics {
     // The drive from black to white, in millivolts times nanoseconds.
     pub full_swing: u64,
@@ -40,7 +40,7 @@ impl Optics {
 }
 
 // What a published picture comes from.
-#[derive(Drop)]
+#[derive(Clone, Copy)]
 pub enum RefreshKind {
     // The glass at power-on, before any refresh (generation 0).
     PowerOn,
@@ -51,7 +51,7 @@ pub enum RefreshKind {
 }
 
 // A picture without its pixels, which lie in a lent buffer.
-#[derive(Drop)]
+#[derive(Clone, Copy)]
 pub struct PanelImage {
     pub width: u16,
     pub height: u16,
@@ -87,7 +87,7 @@ fn net(a: u64, b: u64, c: u64, d: u64) -> u64
 }
 
 // What a run of frames does to a state: it adds up, takes down away and holds to lo ..= hi.
-#[derive(Drop)]
+#[derive(Clone, Copy)]
 pub struct Transfer {
     pub up: u64,
     pub down: u64,
@@ -151,7 +151,7 @@ pub fn level(gray: u8, swing: u64) -> u64
 }
 
 // A sum of two numbers below the swing, as a carry and what is left below the swing.
-#[derive(Drop)]
+#[derive(Clone, Copy)]
 struct Sum {
     carry: u64,
     rest: u64,

@@ -11,7 +11,7 @@ const SAID: usize = crate::ROOM + 64;
 
 // Where the lines go, once there was one: no file is made where every capture is turned back. And
 // whether that could be written.
-#[derive(Drop)]
+#[derive(Clone, Copy)]
 struct Output {
     opened: bool,
     fd: i32,

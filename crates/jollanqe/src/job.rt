@@ -25,7 +25,7 @@ pub(crate) enum Word {
 }
 
 // What is written of a dump, or of a picture.
-#[derive(Drop)]
+#[derive(Clone, Copy)]
 enum Chosen {
     Tone(Tone),
     // There is no such word, or too many or too few.

@@ -16,7 +16,7 @@ pub(crate) enum Watch {
 }
 
 // The record after an event, and whether the replay goes on.
-#[derive(Drop)]
+#[derive(Clone, Copy)]
 struct Met {
     chip: Uc8253,
     ended: Ended,

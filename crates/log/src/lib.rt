@@ -12,7 +12,7 @@ use diagnostic::{DiagnosticKind, MAX_DIAGNOSTICS, ROW, row};
 pub const ROWS: usize = 5_120;
 
 #[repr(C)]
-#[derive(Drop)]
+#[derive(Clone, Copy)]
 pub struct Log {
     // The rows stored since they were last taken.
     pub stored: u16,

@@ -21,7 +21,7 @@ use registers::{Area, Registers, psr_shl, psr_ud};
 const NOWHERE: u32 = 65_536;
 
 // How the columns or the rows of the panel lie on the RAM's.
-#[derive(Drop)]
+#[derive(Clone, Copy)]
 pub struct Scan {
     // The panel's flag: the first is the last source or gate.
     pub reversed: bool,
@@ -32,7 +32,7 @@ pub struct Scan {
 }
 
 // What the numbers of a refresh go by.
-#[derive(Drop)]
+#[derive(Clone, Copy)]
 pub struct Mapping {
     pub columns: Scan,
     pub rows: Scan,
@@ -125,7 +125,7 @@ fn table_number(old_white: bool, new_white: bool) -> u8
 }
 
 // A row of the RAM and the columns of it that lie inside both areas; lo above hi where none does.
-#[derive(Drop)]
+#[derive(Clone, Copy)]
 struct Row {
     row: u16,
     lo: u16,

@@ -4,7 +4,7 @@
 ghost use Rattle.std.specs.Prelude.{◌≡◌};
 ghost use Rattle.outcome.specs.Came.{came_by, panel_came};
 
-#[derive(Drop)]
+#[derive(Clone, Copy)]
 pub enum Came {
     // A file of no bytes: nobody captured.
     NoEvents,

@@ -26,7 +26,7 @@ use text::put;
 pub use wide::{wide_count, wide_part};
 
 // What is written of a capture that is played.
-#[derive(Drop)]
+#[derive(Clone, Copy)]
 pub enum Form {
     // The lines of document 01, as `panel` writes them.
     Panel,
@@ -39,7 +39,7 @@ pub enum Form {
 }
 
 // What a capture came to, beside what its buffers hold.
-#[derive(Drop)]
+#[derive(Clone, Copy)]
 pub struct Outcome {
     pub came: Came,
     pub log: Log,
@@ -47,7 +47,7 @@ pub struct Outcome {
 }
 
 // A part of the text: how many bytes of the buffer it has, and the unit that comes after it.
-#[derive(Drop)]
+#[derive(Clone, Copy)]
 pub struct Part {
     pub held: usize,
     pub next: usize,

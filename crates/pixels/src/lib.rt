@@ -95,7 +95,7 @@ pub fn fill_words(words: &mut [u64])
 // A transfer made ready for states up to 2^63 - 1: `plus` is added to a state, the sum is held to
 // low ..= high, and `minus` is taken from it. One of plus and minus is 0, and the ends are raised
 // by minus, so no sign is tested.
-#[derive(Drop)]
+#[derive(Clone, Copy)]
 struct Ready {
     plus: u64,
     minus: u64,
@@ -212,7 +212,7 @@ fn thresholds(swing: u64) -> [u64; THRESHOLDS]
 
 // How a grey is guessed: the leading bits of the state, at most `most`, times the factor are the
 // grey in the units of the guess.
-#[derive(Drop)]
+#[derive(Clone, Copy)]
 struct Scale {
     shift: u32,
     most: u64,
@@ -326,7 +326,7 @@ pub fn draw_driven(
 
 // What greys at a top want, worked out once for all pixels: the swing is `whole` times `double`,
 // which is twice the top, and `rest`.
-#[derive(Drop)]
+#[derive(Clone, Copy)]
 struct Wide {
     swing: u64,
     top: u16,

@@ -19,27 +19,27 @@ use ram::{Found, PLANE};
 use rules::{busy_at, foreign};
 
 // What turned the question back, if anything did, and the answer.
-#[derive(Drop)]
+#[derive(Clone, Copy)]
 pub struct Busy {
     pub refused: Refusal,
     // `BUSY_N` is low.
     pub busy: bool,
 }
 
-#[derive(Drop)]
+#[derive(Clone, Copy)]
 pub struct Deadline {
     pub refused: Refusal,
     pub due: Due,
 }
 
-#[derive(Drop)]
+#[derive(Clone, Copy)]
 pub struct Bit {
     pub refused: Refusal,
     pub found: Found,
 }
 
 // The record after the rows are taken, and how many there were.
-#[derive(Drop)]
+#[derive(Clone, Copy)]
 pub struct Taken {
     pub chip: Uc8253,
     pub refused: Refusal,

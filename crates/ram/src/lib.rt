@@ -27,7 +27,7 @@ const LAST: u16 = 0xFFFF;
 
 // Where the next pixel byte goes.
 #[repr(C)]
-#[derive(Drop)]
+#[derive(Clone, Copy)]
 pub struct Cursor {
     pub x: u16,
     pub y: u16,
@@ -66,7 +66,7 @@ pub fn bit(plane: &[u8], x: u16, y: u16) -> u8
 }
 
 // What stands at a place: a bit of the RAM, or nothing past it.
-#[derive(Drop)]
+#[derive(Clone, Copy)]
 pub enum Found {
     Bit(u8),
     Nothing,

@@ -1,5 +1,5 @@
 // Which test of a capture file failed first, with the numbers that it was of.
-#[derive(Drop)]
+#[derive(Clone, Copy)]
 pub enum Reason {
     // 8: too few bytes, or too many.
     Short(u64),

@@ -23,7 +23,7 @@ const LAST_ROW: u16 = RAM_GATES - 1;
 
 // A rectangle of RAM, in pixels, its ends included.
 #[repr(C)]
-#[derive(Drop)]
+#[derive(Clone, Copy)]
 pub struct Area {
     pub x0: u16,
     pub y0: u16,
@@ -50,7 +50,7 @@ impl Area {
 
 // Horizontal and vertical.
 #[repr(C)]
-#[derive(Drop)]
+#[derive(Clone, Copy)]
 pub struct Pair {
     pub h: u16,
     pub v: u16,
@@ -58,7 +58,7 @@ pub struct Pair {
 
 // The registers but for the LUTs, which stand beside them: these are copied often.
 #[repr(C)]
-#[derive(Drop)]
+#[derive(Clone, Copy)]
 pub struct Registers {
     pub psr: [u8; 2],
     pub power: [u8; 5],

@@ -10,7 +10,7 @@ const TABLES: usize = 5;
 
 // The bytes of the LUTs that the model reads.
 #[repr(C)]
-#[derive(Drop)]
+#[derive(Clone, Copy)]
 pub struct Luts {
     pub bytes: [[u8; LUT_BYTES]; TABLES],
 }

@@ -13,7 +13,7 @@ use output::{Form, Outcome, wide_count, wide_part};
 use questions::wide_picture;
 
 // What is written of a panel: its form, and, of a picture, whether it is drawn at a top of its own.
-#[derive(Drop)]
+#[derive(Clone, Copy)]
 pub struct Tone {
     pub form: Form,
     pub wide: bool,

@@ -30,7 +30,7 @@ use write::write;
 pub const INPUT: usize = 65_537;
 
 // How many entries each lent buffer has.
-#[derive(Drop)]
+#[derive(Clone, Copy)]
 pub struct Sizes {
     pub old: usize,
     pub new: usize,

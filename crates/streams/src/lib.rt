@@ -19,7 +19,7 @@ use registers::Area;
 use rules::{counted, foreign, lengths_fit};
 
 // What a run of pixel bytes changes beside its plane, and how many there were.
-#[derive(Drop)]
+#[derive(Clone, Copy)]
 pub struct Change {
     pub cursor: Cursor,
     pub received: u16,
@@ -28,14 +28,14 @@ pub struct Change {
 }
 
 // The record after some events, and how many there were.
-#[derive(Drop)]
+#[derive(Clone, Copy)]
 pub struct Flowed {
     pub chip: Uc8253,
     pub done: usize,
 }
 
 // Where the data bytes that follow go, if they are pixels.
-#[derive(Drop)]
+#[derive(Clone, Copy)]
 pub enum Target {
     Nowhere,
     Older(Active),

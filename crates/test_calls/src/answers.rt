@@ -18,7 +18,7 @@ const HALF: u64 = 65_536;
 const WORD: u64 = 4_294_967_296;
 
 // Which answer.
-#[derive(Drop)]
+#[derive(Clone, Copy)]
 pub enum Which {
     // The bytes of the answers that the input has.
     Stored,
@@ -35,7 +35,7 @@ pub enum Which {
     Planes,
 }
 
-#[derive(Drop)]
+#[derive(Clone, Copy)]
 pub struct Answers {
     pub stored: u64,
     pub refused: u64,
@@ -51,7 +51,7 @@ pub struct Answers {
 }
 
 // What was compared so far, and how many answers differ.
-#[derive(Drop)]
+#[derive(Clone, Copy)]
 pub struct Tally {
     pub traces: u64,
     pub events: u64,

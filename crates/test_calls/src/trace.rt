@@ -18,7 +18,7 @@ use uc8253::power_on;
 const DIGEST_EVERY: usize = 16;
 
 // The record after an event, and what was compared so far.
-#[derive(Drop)]
+#[derive(Clone, Copy)]
 struct Met {
     chip: Uc8253,
     tally: Tally,

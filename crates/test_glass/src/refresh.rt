@@ -8,7 +8,7 @@ use test_numerals::number;
 use waveform::{LUTS, Levels, Waveform, whole_frames};
 
 // A table's 42 bytes, and the place after them.
-#[derive(Drop)]
+#[derive(Clone, Copy)]
 struct Lut {
     bytes: [u8; 42],
     next: usize,
@@ -28,7 +28,7 @@ fn read_lut(s: &[u8], at: usize) -> Lut {
 }
 
 // The waveform whose tables begin at the place at, and the place after them.
-#[derive(Drop)]
+#[derive(Clone, Copy)]
 struct Loaded {
     waveform: Waveform,
     next: usize,
@@ -48,7 +48,7 @@ fn read_waveform(s: &[u8], at: usize, levels: Levels, period: u64, by_frame: boo
 }
 
 // The refresh as the controller ends it: all frames, or those whole before the reset.
-#[derive(Drop)]
+#[derive(Clone, Copy)]
 struct Ending {
     lut: usize,
     swing: u64,

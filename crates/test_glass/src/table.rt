@@ -5,7 +5,7 @@ use base::{least, saturating_add};
 use test_numerals::number;
 
 // Whose answers a table holds.
-#[derive(Drop)]
+#[derive(Clone, Copy)]
 pub enum Table {
     // Rows of GRAY SWING STATE.
     Level,
@@ -19,14 +19,14 @@ pub enum Table {
 }
 
 // Whether a row's answers are the functions', and the place after it.
-#[derive(Drop)]
+#[derive(Clone, Copy)]
 pub struct Checked {
     pub same: bool,
     pub next: usize,
 }
 
 // The rows so far, and the place after them.
-#[derive(Drop)]
+#[derive(Clone, Copy)]
 pub struct Tally {
     pub equal: u64,
     pub different: u64,

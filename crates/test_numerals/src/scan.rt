@@ -5,7 +5,7 @@ ghost use Rattle.test_numerals.specs.Rows.{is_digit, skipped, digits_at};
 use base::{saturating_add, saturating_mul, saturating_sub};
 
 // A number of a text, and the place after its last digit.
-#[derive(Drop)]
+#[derive(Clone, Copy)]
 pub struct Number {
     pub value: u64,
     pub next: usize,

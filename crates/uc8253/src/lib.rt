@@ -24,7 +24,7 @@ pub use questions::{
 };
 
 // What a read gives back: the record, what turned it back, and the byte.
-#[derive(Drop)]
+#[derive(Clone, Copy)]
 pub struct ReadAnswer {
     pub chip: Uc8253,
     pub refused: Refusal,

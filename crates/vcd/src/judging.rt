@@ -7,7 +7,7 @@ use vcd_declarations::{Begun, Codes, Head, declarations};
 use vcd_simulation::{Body, begun, feed, is_over};
 use vcd_words::Span;
 
-#[derive(Drop)]
+#[derive(Clone, Copy)]
 pub enum Judged {
     // Neither.
     Fine,

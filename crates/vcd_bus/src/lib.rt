@@ -5,7 +5,7 @@ ghost use Rattle.std.specs.Prelude.{◌≡◌};
 ghost use Rattle.base.specs.Pick.{pick};
 ghost use Rattle.vcd_bus.specs.Signals as rule;
 
-#[derive(Drop)]
+#[derive(Clone, Copy)]
 pub struct Bus {
     pub cs: u8,
     pub dc: u8,

@@ -6,7 +6,7 @@ ghost use Rattle.vcd_declarations.specs.Codes as rule;
 use vcd_words::{Span, same};
 
 // A code without bytes is that of no signal.
-#[derive(Drop)]
+#[derive(Clone, Copy)]
 pub struct Codes {
     pub cs: Span,
     pub dc: Span,
@@ -16,7 +16,7 @@ pub struct Codes {
 }
 
 // Codes that one of the five was declared with again, each of them once; the last one first.
-#[derive(Drop)]
+#[derive(Clone, Copy)]
 pub struct Further {
     pub first: Span,
     pub second: Span,

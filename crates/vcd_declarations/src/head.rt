@@ -15,7 +15,7 @@ use vcd_values::{CLK, CS, DC, MOSI, NO_NAME, OTHER};
 use vcd_words::{Span, next_word};
 
 // What the declarations say.
-#[derive(Drop)]
+#[derive(Clone, Copy)]
 pub struct Head {
     // Malformed.
     pub broken: bool,
@@ -30,7 +30,7 @@ pub struct Head {
 }
 
 // What the declarations say, whether each of them has its end, and where they are over.
-#[derive(Drop)]
+#[derive(Clone, Copy)]
 pub struct Begun {
     pub head: Head,
     pub ended: bool,

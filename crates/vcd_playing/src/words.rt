@@ -16,7 +16,7 @@ const ROOM: usize = 10_000;
 const FREE: usize = 20;
 
 // The record and the body after some words, and the place behind the last of them.
-#[derive(Drop)]
+#[derive(Clone, Copy)]
 pub struct Turn {
     pub chip: Uc8253,
     pub body: Body,

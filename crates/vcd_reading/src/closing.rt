@@ -14,7 +14,7 @@ use vcd_playing::{finish, play_words};
 use vcd_simulation::{Body, begun};
 
 // What a dump came to.
-#[derive(Drop)]
+#[derive(Clone, Copy)]
 pub enum Ending {
     Judged(Judged),
     // It was not read to its end.
@@ -23,7 +23,7 @@ pub enum Ending {
 }
 
 // The record after the last call.
-#[derive(Drop)]
+#[derive(Clone, Copy)]
 pub struct Closed {
     pub chip: Uc8253,
     pub ending: Ending,

@@ -7,7 +7,7 @@ ghost use Rattle.vcd_reading.specs.InnerStep.{in_stage};
 use vcd_declarations::{Begun, declarations};
 use vcd_simulation::Body;
 
-#[derive(Drop)]
+#[derive(Clone, Copy)]
 pub enum Stage {
     // All bytes so far are kept.
     Heading,
@@ -19,7 +19,7 @@ pub enum Stage {
     WordTooLong,
 }
 
-#[derive(Drop)]
+#[derive(Clone, Copy)]
 pub struct Reader {
     pub stage: Stage,
     // The first bytes that are kept, and what their declarations say.

@@ -16,7 +16,7 @@ use vcd_simulation::{Body, begun};
 use vcd_words::next_word;
 
 // The reader and the record after a part.
-#[derive(Drop)]
+#[derive(Clone, Copy)]
 pub struct Step {
     pub reader: Reader,
     pub chip: Uc8253,

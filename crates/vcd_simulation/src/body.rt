@@ -5,7 +5,7 @@ ghost use Rattle.vcd_simulation.specs.Simulation as rule;
 use vcd_bus::{Bus, quiet};
 
 // What may come next.
-#[derive(Drop)]
+#[derive(Clone, Copy)]
 pub enum Wanted {
     // A simulation command.
     Command,
@@ -20,7 +20,7 @@ pub enum Wanted {
     Broken,
 }
 
-#[derive(Drop)]
+#[derive(Clone, Copy)]
 pub struct Body {
     pub wanted: Wanted,
     // The last time.

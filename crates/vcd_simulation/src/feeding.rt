@@ -14,7 +14,7 @@ const ROOM: usize = 20;
 
 // The body after some words, the place behind the last of them, and how many bytes of events are
 // held.
-#[derive(Drop)]
+#[derive(Clone, Copy)]
 pub struct Fed {
     pub body: Body,
     pub next: usize,

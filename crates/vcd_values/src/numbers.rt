@@ -3,14 +3,14 @@ ghost use Rattle.std.specs.Prelude.{◌≡◌, ltb};
 ghost use Rattle.vcd_values.specs.Numbers as rule;
 
 // A time, or what is none: no number, or one of more than 64 bits.
-#[derive(Drop)]
+#[derive(Clone, Copy)]
 pub enum Time {
     At(u64),
     Broken,
 }
 
 // A size: no wider than a bit, wider, or no number.
-#[derive(Drop)]
+#[derive(Clone, Copy)]
 pub enum Size {
     Bit,
     Wide,

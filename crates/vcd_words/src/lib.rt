@@ -6,7 +6,7 @@ ghost use Rattle.vcd_words.specs.Words as rule;
 ghost use Rattle.vcd_words.specs.Places as place;
 
 // A word, by its places in some bytes.
-#[derive(Drop)]
+#[derive(Clone, Copy)]
 pub struct Span {
     pub from: usize,
     pub to: usize,

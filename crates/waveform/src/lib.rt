@@ -40,7 +40,7 @@ const TAIL_FRAMES: u64 = 2;
 
 // The supply levels that a LUT selects, in millivolts; VDL lies below zero, and this is how far.
 #[repr(C)]
-#[derive(Drop)]
+#[derive(Clone, Copy)]
 pub struct Levels {
     pub vdh: u16,
     pub vdl: u16,
@@ -62,7 +62,7 @@ impl Levels {
 
 // One group of a LUT.
 #[repr(C)]
-#[derive(Drop)]
+#[derive(Clone, Copy)]
 pub struct Group {
     // The level selects of phases A to D.
     pub codes: [u8; PHASES],
@@ -74,7 +74,7 @@ pub struct Group {
 // The five LUTs as a refresh reads them, with the supplies and the frame period: table 0 drives
 // VCOM, 1 to 4 the pixels by their old and new bits.
 #[repr(C)]
-#[derive(Drop)]
+#[derive(Clone, Copy)]
 pub struct Waveform {
     pub tables: [[Group; GROUPS]; LUTS],
     pub levels: Levels,
@@ -191,7 +191,7 @@ fn table_frames(table: [Group; GROUPS]) -> u64
 }
 
 // A level or a voltage in millivolts, above zero or below; one of the two is 0.
-#[derive(Drop)]
+#[derive(Clone, Copy)]
 struct Volts {
     above: u16,
     below: u16,
@@ -223,7 +223,7 @@ fn level_of(levels: Levels, code: u8) -> Volts
 }
 
 // What every frame of a refresh has in common.
-#[derive(Drop)]
+#[derive(Clone, Copy)]
 struct Supply {
     levels: Levels,
     frame_ns: u64,
@@ -231,7 +231,7 @@ struct Supply {
 }
 
 // The drive of one frame, up or down, held to 64 bits; one of the two is 0.
-#[derive(Drop)]
+#[derive(Clone, Copy)]
 struct Drive {
     up: u64,
     down: u64,
@@ -271,7 +271,7 @@ fn frame_drive(supply: Supply, source: u8, vcom: u8) -> Drive
 }
 
 // A run so far, and the frames that are left to drive.
-#[derive(Drop)]
+#[derive(Clone, Copy)]
 struct Progress {
     run: Transfer,
     left: u64,
@@ -368,7 +368,7 @@ fn drive_table(
 }
 
 // A place in a table's sequence of codes, one a frame: in a phase of one of a group's rounds.
-#[derive(Drop)]
+#[derive(Clone, Copy)]
 struct Place {
     group: usize,
     // Rounds of the group after this one.

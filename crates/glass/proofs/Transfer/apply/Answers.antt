@@ -5,18 +5,14 @@ use mathlib.Core.Path.{◌≡◌, ◌∙◌, sym}
 use native.Mathlib.Omega.{arith}
 use Rattle.base.specs.Word.{top}
 use Rattle.glass.proofs.TransferLaws.{act_is}
-use Rattle.glass.proofs.Transfer.apply.Statement.{statement}
-use Rattle.glass.proofs.Transfer.apply.Tie as tie
+use Rattle.glass.proofs.Transfer.apply.Goals as goal
 
 held-twice : (lo hi v w l g : ℕ) → hi ≤ top → w ≡ min v top → l ≡ min w hi → g ≡ max lo l → g ≡ max lo (min v hi)
 held-twice lo hi v w l g h p q r = omega arith
 
-returns : tie.Need-returns
+pub returns : goal.returns
 returns c =
     let s = c.before.before.before in
     let t = s.args.self in
-    held-twice t.lo t.hi (s.args.state + t.up - t.down) _ _ _ (omega arith) c.before.before.moved.ensures c.before.least.ensures c.greatest.ensures
+    held-twice t.lo t.hi (s.args.state + t.up - t.down) _ _ _ (omega arith) c.moved-y.ensures c.least.ensures c.greatest.ensures
     ∙ sym (act_is t s.args.state)
-
-pub apply-spec : {M : Type 1} → statement M
-apply-spec = tie.close (tie.spec (λ c κs. search rules) (λ c κs. search rules) (λ c κs. search rules) returns)
