@@ -14,12 +14,11 @@
  *     other thread touches it during the call. Calls on different panels may run side by side.
  *   - A bool is the byte 0 or 1, in a record too. A record that was not given back by a call, but
  *     read from a file or put together, goes through jollanqe_bools_hold first.
- *   - x86-64 Linux (System V calls), and 96 KB of stack: 26 KB were measured, and 64 KB more for a row's
- *     numbers in a call that ends a refresh and in jollanqe_between.
+ *   - x86-64 Linux (System V calls), and 32 KB of stack (26 KB were measured).
  *
  * WHAT IS REFUSED. By a number, enum jollanqe_refusal, in `refused`; 0 is a call that was taken. Making
  * tests 1, 2, 3, 4, 13, 5 in this order; a later call 6, 5, 7; a question 6, then 5 for what it is lent, and
- * jollanqe_picture and jollanqe_between then the states by 7; jollanqe_forecast its file by 8, 9, 1, 2, 3, 4, 13.
+ * jollanqe_picture then the states by 7.
  *
  * WHAT IS GIVEN BACK WHERE A CALL IS REFUSED. Making: a record of zeros. A later call: the record that it
  * was handed, so that a host may always keep what comes back. No entry of a buffer is changed. A refused
@@ -69,8 +68,7 @@ JOLLANQE_HOLDS(sizeof(size_t) == 8 && sizeof(bool) == 1);
 #define JOLLANQE_NOTHING 256 /* a read to which the controller drives nothing, or that was refused */
 #define JOLLANQE_NO_READ 257 /* a call or an event that is no read */
 
-/* Why a call is refused. A panel's calls give 0 to 7 and 13, jollanqe_forecast 8 and 9 too; 10 to 12 are said of files by
- * programs. */
+/* Why a call is refused. The library gives 0 to 7 and 13; the others are said of files by programs. */
 enum jollanqe_refusal {
     JOLLANQE_TAKEN = 0,
     JOLLANQE_EMPTY_PANEL = 1,      /* sources or gates is 0 */
@@ -79,7 +77,7 @@ enum jollanqe_refusal {
     JOLLANQE_FRAME_PERIOD = 4,     /* one of the 32 periods is 0 */
     JOLLANQE_BUFFER_LENGTH = 5,    /* a lent buffer has not its length */
     JOLLANQE_FOREIGN_RECORD = 6,   /* a record that no call gives: docs/FORMAT.md has the ranges */
-    JOLLANQE_FOREIGN_CONTENTS = 7, /* a state is out of range, as a refresh ends or a picture is asked for */
+    JOLLANQE_FOREIGN_CONTENTS = 7, /* a state is out of range, as a refresh ends or for a picture */
     JOLLANQE_BROKEN_CAPTURE = 8,   /* the file's length or its trailer */
     JOLLANQE_BAD_EVENT = 9,        /* a variant, flag, event kind or value that is not listed */
     JOLLANQE_TOO_MANY_PIXELS = 10, /* more than the program has room for */
@@ -348,23 +346,10 @@ typedef struct jollanqe_asked {
 } jollanqe_asked;
 JOLLANQE_HOLDS(sizeof(jollanqe_asked) == 16 && offsetof(jollanqe_asked, known) == 9);
 
-/* What a capture will need; zeros where it is refused. */
-typedef struct jollanqe_needs {
-    uint64_t ended;    /* refreshes that end by themselves or are cut by reset */
-    uint64_t dropped;  /* rows of diagnostics that find no room */
-    uint64_t deadline; /* when what runs after the last event ends, held at 2^64 - 1; 0 where nothing runs */
-    uint64_t frames;   /* frames driven by the refreshes ended, over the four pixel tables */
-    uint16_t stored;   /* rows of diagnostics that are stored, at most 1,024 */
-    uint8_t refused;   /* enum jollanqe_refusal, 0 where the capture was taken */
-    bool known;        /* something runs after the last event: there is a deadline */
-} jollanqe_needs;
-JOLLANQE_HOLDS(sizeof(jollanqe_needs) == 40 && offsetof(jollanqe_needs, frames) == 24);
-JOLLANQE_HOLDS(offsetof(jollanqe_needs, stored) == 32 && offsetof(jollanqe_needs, known) == 35);
-
 /* ---- the calls ---- */
 
 /*
- * The five buffers, which every call but the last seven is lent after its own arguments:
+ * The five buffers, which every call but the last five is lent after its own arguments:
  *   old_plane, new_plane  60,000 bytes each: 600 rows of 100 bytes, the first column in a byte's highest bit
  *   states                sources x gates: where each pixel stands, 0 black to the full swing
  *   picture               sources x gates greys, rows from the top left, 0 black to 255 white
@@ -458,37 +443,6 @@ jollanqe_asked jollanqe_bit(jollanqe_record chip, const uint8_t *plane, size_t p
  */
 jollanqe_asked jollanqe_picture(jollanqe_record chip, const int64_t *states, size_t states_length, uint16_t *wide,
                                 size_t wide_length, uint16_t top);
-
-/*
- * The glass between frames: `seen`, sources x gates entries, becomes the picture at top 255 that the glass has after
- * so many frames of the running refresh, 0 black to 255 white, rows from the top left.
- *   - The frames are those of the refresh, one after the other, by the rule of VCOM that it was started by; one in
- *     which VCOM floats drives nothing and counts. The clock has no part in it: any count may be asked for at any
- *     time of the refresh, also one that the clock passes over or does not reach before the end.
- *   - It is what a reset after exactly so many frames would leave. At 0 it is the greys of the states, from the
- *     longest table's length on the finished refresh.
- *   - With no refresh running it is a copy of `picture`.
- *   - No state, plane, picture or record changes. The rows are not lent.
- *   - Refused by 6, by 5 for the length of a plane, the states, `picture` or `seen`, then, refresh or not, by 7 for a
- *     state outside 0 .. full swing: then no entry of `seen` changes. Taken, it is known, and `value` is 0.
- */
-jollanqe_asked jollanqe_between(jollanqe_record chip, uint64_t frames, const uint8_t *old_plane, size_t old_length,
-                                const uint8_t *new_plane, size_t new_length, const int64_t *states,
-                                size_t states_length, const uint8_t *picture, size_t picture_length, uint8_t *seen,
-                                size_t seen_length);
-
-/*
- * What a capture will need, from the bytes of its file alone: no panel is made, and no buffer is lent.
- *   - Refreshes ended, rows stored and dropped, and the deadline are those of a panel that is made from the file and
- *     meets its events: `generation` of its picture, `stored` and `dropped` of its log, jollanqe_deadline's answer.
- *   - An ended refresh's frames are those of tables 1 to 4 together (white to white, black to white, white to black,
- *     black to black), floating ones counted, whether or not a pixel has the table's number; of one that reset cuts,
- *     the whole frames until then, of each table as far as it goes. VCOM's table and the two frames after the longest
- *     are not counted, nor is a refresh that still runs.
- *   - Refused by 8 (320 to 65,536 bytes, with the trailer of a capture), 9, 1, 2, 3, 4, 13. Not by 10: panels go up to
- *     800 by 600.
- */
-jollanqe_needs jollanqe_forecast(const uint8_t *file, size_t file_length);
 
 /* ---- beside the library ---- */
 

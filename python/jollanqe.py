@@ -256,20 +256,6 @@ class Asked(Structure):
     _fields_ = [("value", c_uint64), ("refused", c_uint8), ("known", c_bool)]
 
 
-class Needs(Structure):
-    """What a capture will need, as the library gives it; `forecast` hands it out as a Forecast."""
-
-    _fields_ = [
-        ("ended", c_uint64),
-        ("dropped", c_uint64),
-        ("deadline", c_uint64),
-        ("frames", c_uint64),
-        ("stored", c_uint16),
-        ("refused", c_uint8),
-        ("known", c_bool),
-    ]
-
-
 # as the assertions of include/jollanqe.h have them
 SIZES = {
     Area: 8,
@@ -290,7 +276,6 @@ SIZES = {
     Record: 1_032,
     Given: 1_040,
     Asked: 16,
-    Needs: 40,
 }
 
 
@@ -337,8 +322,6 @@ _CALLS = {
     "jollanqe_deadline": (Asked, [Record]),
     "jollanqe_bit": (Asked, [Record] + _slice("B") + [c_uint16, c_uint16]),
     "jollanqe_picture": (Asked, [Record] + _slice("q") + _slice("H") + [c_uint16]),
-    "jollanqe_between": (Asked, [Record, c_uint64] + [kind for letter in "BBqBB" for kind in _slice(letter)]),
-    "jollanqe_forecast": (Needs, _slice("B")),
 }
 
 
@@ -567,32 +550,6 @@ def write_capture(configuration, events=b""):
     return events + configuration.to_bytes() + struct.pack("<II", len(events), len(events) // EVENT_BYTES)
 
 
-@dataclass(frozen=True)
-class Forecast:
-    """What a capture will need: refreshes ended, cut ones too; rows stored and dropped; when what runs after the last
-    event ends, None where nothing runs; frames driven."""
-
-    ended: int
-    stored: int
-    dropped: int
-    deadline: int | None
-    frames: int
-
-
-def forecast(file):
-    """What a capture file will need, from its bytes alone: no panel is made.
-
-    The first four are those of a panel that meets the events. An ended refresh drives the frames of tables 1 to 4
-    together, one that reset cut those until then. Refused by 8, 9, 1 to 4 or 13, as the program tests it but for 10:
-    panels go up to 800 by 600, files up to 65,536 bytes.
-    """
-    file = _bytes(file)
-    data = (c_uint8 * max(1, len(file))).from_buffer_copy(file or b"\0")
-    needs = _held(_library.jollanqe_forecast(data, len(file)))
-    deadline = needs.deadline if needs.known else None
-    return Forecast(needs.ended, needs.stored, needs.dropped, deadline, needs.frames)
-
-
 def event(at, kind, value=0):
     """The ten bytes of an event."""
     return struct.pack("<QBB", _time(at), _byte(kind), _byte(value))
@@ -613,8 +570,7 @@ class Panel:
     at them at any time and change them between calls. The library tests their lengths and entries.
 
     A refused call raises Refused. Of a panel whose buffers and record nobody else changes, only
-    making is ever refused (a theorem of the library), and a picture at a top or between frames into a
-    buffer of another length.
+    making is ever refused (a theorem of the library), and a picture at a top into a buffer of another length.
     """
 
     def __init__(self, configuration, **buffers):
@@ -745,20 +701,6 @@ class Panel:
         with self._lock:
             _held(_library.jollanqe_picture(self._record, *self._slices[2].lent, *lent.lent, top))
         return list(lent.array) if wide is None else None
-
-    def between(self, frames, seen=None):
-        """The picture that the glass has after so many frames of the running refresh, 0 black to 255 white.
-
-        The greys come as bytes, or go into `seen` where it is handed in: a writable buffer of sources x gates bytes.
-        It is what a reset after exactly so many frames would leave, whatever the clock is; from the longest table's
-        length on it is the finished refresh. With no refresh running it is a copy of `picture`. Nothing else changes.
-        """
-        frames = _number(frames, 2**64 - 1, "frames")
-        lent = _Slice("B", bytearray(len(self.states)) if seen is None else seen, "seen")
-        _apart([*self._slices, lent])
-        with self._lock:
-            _held(_library.jollanqe_between(self._record, frames, *self._five[:8], *lent.lent))
-        return bytes(lent.array) if seen is None else None
 
     # -- what is shown --
 

@@ -214,31 +214,21 @@ static void refused_by(uint8_t number, jollanqe_record record, jollanqe_buffers 
     give_up(before);
 }
 
-/* The question for the glass between frames, which is lent all but the rows. */
-static jollanqe_asked ask_between(jollanqe_record record, uint64_t frames, jollanqe_buffers lent, uint8_t *seen,
-                                  size_t length) {
-    return jollanqe_between(record, frames, lent.old_plane, lent.old_length, lent.new_plane, lent.new_length,
-                            lent.states, lent.states_length, lent.picture, lent.picture_length, seen, length);
-}
-
 /* The questions and the taking of the rows are refused by this number. */
 static void asked_by(uint8_t number, jollanqe_record record, jollanqe_buffers lent) {
     jollanqe_given taken = jollanqe_take(record, lent.rows, lent.rows_length);
     must(taken.refused == number && taken.answer == 0 && same_records(&taken.chip, &record), "a refused taking");
     uint16_t *wide = room(PIXELS, sizeof *wide);
-    uint8_t *seen = room(PIXELS, sizeof *seen);
     jollanqe_asked asked[] = {jollanqe_busy(record, 150), jollanqe_deadline(record),
                               jollanqe_bit(record, lent.old_plane, lent.old_length, 0, 0),
-                              jollanqe_picture(record, lent.states, lent.states_length, wide, PIXELS, 65535),
-                              ask_between(record, 1, lent, seen, PIXELS)};
-    for (size_t i = 0; i < sizeof asked / sizeof *asked; i++) {
+                              jollanqe_picture(record, lent.states, lent.states_length, wide, PIXELS, 65535)};
+    for (int i = 0; i < 4; i++) {
         must(asked[i].refused == number && !asked[i].known && asked[i].value == 0, "a refused question");
     }
     for (size_t i = 0; i < PIXELS; i++) {
-        must(wide[i] == 0 && seen[i] == 0, "a refused picture changes no entry");
+        must(wide[i] == 0, "a refused picture changes no entry");
     }
     free(wide);
-    free(seen);
 }
 
 /* ---- what is refused ---- */
@@ -450,186 +440,6 @@ static void pictures_at_making(void) {
     free(wider);
     give_up(lent);
     shown("a picture at a top before any refresh: of the states, where the 8-bit picture is the initial grey");
-}
-
-/* ---- the glass between frames ---- */
-
-/* Asks for the picture after so many frames, in so many entries, by this number; a refused one changes none of them. */
-static uint8_t *between(uint8_t number, panel p, uint64_t frames, size_t length) {
-    uint8_t *seen = room(length, sizeof *seen);
-    memset(seen, 0x5A, length);
-    jollanqe_buffers before = copied(p.lent);
-    jollanqe_asked asked = ask_between(p.record, frames, p.lent, seen, length);
-    must(asked.refused == number && asked.known == (number == 0) && asked.value == 0, "a picture between frames");
-    for (size_t i = 0; number != 0 && i < length; i++) {
-        must(seen[i] == 0x5A, "a refused picture changes no entry");
-    }
-    must(same_buffers(before, p.lent), "a picture between frames changes no other buffer");
-    give_up(before);
-    return seen;
-}
-
-/* Lengths of each buffer that is lent, and of `seen`; a record of zeros before them. */
-static void between_lengths(panel p) {
-    for (int which = 0; which < BUFFERS; which++) {
-        size_t wrong[] = {0, fitting[which] - 1, fitting[which] + 1};
-        for (int i = 0; i < 3; i++) {
-            static const jollanqe_record zeros;
-            size_t length[BUFFERS];
-            memcpy(length, fitting, sizeof length);
-            length[which] = wrong[i];
-            panel other = {p.record, lend(length)};
-            free(between(which == 4 ? 0 : JOLLANQE_BUFFER_LENGTH, other, 1, PIXELS)); /* 4: the rows are not lent */
-            other.record = zeros;
-            free(between(JOLLANQE_FOREIGN_RECORD, other, 1, PIXELS));
-            give_up(other.lent);
-        }
-    }
-    free(between(JOLLANQE_BUFFER_LENGTH, p, 1, 0));
-    free(between(JOLLANQE_BUFFER_LENGTH, p, 1, PIXELS - 1));
-    free(between(JOLLANQE_BUFFER_LENGTH, p, 1, PIXELS + 1));
-}
-
-static void between_refused(void) {
-    static const int64_t foreign[] = {-1, SWING + 1, INT64_MIN, INT64_MAX};
-    panel both[] = {refreshing(), made(0)};
-    for (int which = 0; which < 2; which++) {
-        panel p = both[which];
-        between_lengths(p);
-        for (int i = 0; i < 4; i++) {
-            int64_t *state = p.lent.states + (i % 2 ? 0 : PIXELS - 1), kept = *state;
-            *state = foreign[i];
-            free(between(JOLLANQE_FOREIGN_CONTENTS, p, 0, PIXELS));
-            free(between(JOLLANQE_FOREIGN_CONTENTS, p, UINT64_MAX, PIXELS));
-            free(between(JOLLANQE_BUFFER_LENGTH, p, 1, PIXELS + 1));
-            *state = kept;
-        }
-        free(between(0, p, 1, PIXELS));
-        give_up(p.lent);
-    }
-    shown("the glass between frames: refused by 6, 5 for each length, 7 with a refresh and without, no entry changed");
-}
-
-/* No refresh runs: whatever the picture is, it is copied. */
-static void between_copies(panel p, const char *when) {
-    static const uint64_t counts[] = {0, 1, 2, UINT64_MAX};
-    for (size_t i = 0; i < PIXELS; i++) {
-        p.lent.picture[i] = (uint8_t)(i * 37 + 11);
-    }
-    for (size_t i = 0; i < sizeof counts / sizeof *counts; i++) {
-        uint8_t *seen = between(0, p, counts[i], PIXELS);
-        must(memcmp(seen, p.lent.picture, PIXELS) == 0, when);
-        free(seen);
-    }
-}
-
-static void between_no_refresh(void) {
-    panel p = made(0);
-    between_copies(p, "a copy at making");
-    sent(&p, 0x04, NULL, 0);
-    must(p.record.operation.work == JOLLANQE_POWER_ON, "power on runs");
-    between_copies(p, "a copy while power on runs");
-    give_up(p.lent);
-    p = refreshing();
-    keep(&p, jollanqe_advance(p.record, 3200, JOLLANQE_LENT(p.lent)));
-    between_copies(p, "a copy after a refresh");
-    keep(&p, jollanqe_reset(p.record, 4000, true, JOLLANQE_LENT(p.lent)));
-    between_copies(p, "a copy in reset");
-    give_up(p.lent);
-    shown("the glass between frames with no refresh running: the picture copied, at any count");
-}
-
-/*
- * A refresh of frames of 1,000 from a time on, by a rule. VCOM has 0 2 3 0 2 3, of which the last floats; four pixels,
- * black to white, have 2 2 1, the others 2 2 2 2 2. A frame of code 2 beside 0 is a quarter of a swing.
- */
-static panel stepping(bool by_frame, uint64_t from) {
-    static const uint8_t tables[] = {0x3F}, vcom[] = {0x2C, 1, 1, 1, 0, 2}, four = 0xF0;
-    static const uint8_t white[] = {0x90, 2, 1, 0, 0, 1}, black[] = {0x80, 5, 0, 0, 0, 1};
-    uint8_t file[FILE_BYTES];
-    write_file(file, 0);
-    file[1] |= by_frame ? 8 : 0;
-    file[6] = 0;
-    put(file + 8, 2 * SWING, 8);
-    jollanqe_buffers lent = lend(fitting);
-    panel p = {jollanqe_make(file, sizeof file, JOLLANQE_LENT(lent)).chip, lent};
-    sent(&p, 0x00, tables, sizeof tables);
-    sent(&p, 0x04, NULL, 0);
-    keep(&p, jollanqe_advance(p.record, from, JOLLANQE_LENT(p.lent)));
-    sent(&p, 0x20, vcom, sizeof vcom);
-    sent(&p, 0x22, white, sizeof white);
-    sent(&p, 0x24, black, sizeof black);
-    sent(&p, 0x13, &four, 1);
-    sent(&p, 0x12, NULL, 0);
-    must(p.record.operation.work == JOLLANQE_REFRESH && p.record.operation.started == from, "a refresh runs");
-    return p;
-}
-
-/* The longest table is VCOM's, of six frames. */
-enum { LONGEST = 6 };
-
-/* After so many frames, by rule 1 and by rule 2: of the four pixels, and of the others. */
-static const uint8_t four_greys[2][LONGEST + 1] = {{0, 64, 128, 0, 0, 0, 0}, {0, 64, 64, 64, 64, 64, 64}};
-static const uint8_t other_greys[2][LONGEST + 1] = {{0, 64, 128, 191, 255, 255, 255}, {0, 64, 64, 64, 128, 128, 128}};
-
-/* The greys are those that were worked by hand. */
-static uint8_t *stepped(panel p, uint64_t frames) {
-    bool by_frame = p.record.waveform.vcom_by_frame;
-    uint8_t *seen = between(0, p, frames, PIXELS);
-    for (size_t i = 0; i < PIXELS; i++) {
-        const uint8_t *greys = i < 4 ? four_greys[by_frame] : other_greys[by_frame];
-        must(seen[i] == greys[frames < LONGEST ? frames : LONGEST], "the grey after so many frames");
-    }
-    return seen;
-}
-
-/* A reset at a time, or the end, on a copy of the panel leaves this picture. */
-static void leaves(panel p, uint64_t at, bool reset, const uint8_t *seen) {
-    panel copy = {p.record, copied(p.lent)};
-    keep(&copy, reset ? jollanqe_reset(copy.record, at, true, JOLLANQE_LENT(copy.lent))
-                      : jollanqe_advance(copy.record, at, JOLLANQE_LENT(copy.lent)));
-    must(copy.record.image.generation == 1 && copy.record.image.interrupted == reset, "it ended, or was cut");
-    must(memcmp(copy.lent.picture, seen, PIXELS) == 0, "what is left is what was seen");
-    give_up(copy.lent);
-}
-
-/* Every count, beside what a reset after so many frames, and the end, leave. */
-static void between_resets(panel p) {
-    uint16_t *at_255 = pictured(0, p, PIXELS, 255);
-    for (uint64_t frames = 0; frames < LONGEST + 4; frames++) {
-        uint8_t *seen = stepped(p, frames);
-        for (size_t i = 0; frames == 0 && i < PIXELS; i++) {
-            must(seen[i] == at_255[i], "at 0 frames the greys of the states");
-        }
-        if (frames < LONGEST + 2) {
-            leaves(p, 200 + 1000 * frames, true, seen);
-            leaves(p, 200 + 1000 * frames + 999, true, seen);
-        }
-        if (frames >= LONGEST) {
-            leaves(p, 8200, false, seen);
-        }
-        free(seen);
-    }
-    free(stepped(p, UINT64_MAX));
-    free(at_255);
-}
-
-static void between_frames(void) {
-    for (int by_frame = 0; by_frame < 2; by_frame++) {
-        panel p = stepping(by_frame, 200);
-        must(p.record.operation.until == 8200, "it runs to 8,200");
-        between_resets(p);
-        keep(&p, jollanqe_vcom_rule(p.record, 7777, !by_frame, JOLLANQE_LENT(p.lent)));
-        panel held = stepping(by_frame, UINT64_MAX - 1500);
-        must(held.record.operation.until == UINT64_MAX, "its end is held");
-        for (uint64_t frames = 0; frames < LONGEST + 4; frames++) {
-            free(stepped(p, frames));
-            free(stepped(held, frames));
-        }
-        give_up(p.lent);
-        give_up(held.lent);
-    }
-    shown("the glass between frames: what a reset then leaves, the end from the longest table on; not by the clock");
 }
 
 /* ---- runs ---- */
@@ -887,14 +697,6 @@ static void damaged_records(uint32_t count) {
         jollanqe_buffers lent = copied(p.lent);
         lent.states[any(PIXELS)] -= any(8) == 0 ? SWING : 0;
         jollanqe_buffers before = copied(lent);
-        uint8_t *seen = room(PIXELS, sizeof *seen);
-        uint8_t asked = ask_between(record, i % 5, lent, seen, PIXELS).refused;
-        must(asked == 0 || (asked >= JOLLANQE_BUFFER_LENGTH && asked <= JOLLANQE_FOREIGN_CONTENTS), "6, 5 or 7");
-        for (size_t j = 0; asked != 0 && j < PIXELS; j++) {
-            must(seen[j] == 0, "a refused picture changes no entry");
-        }
-        must(same_buffers(before, lent), "a question changes nothing");
-        free(seen);
         int which = (int)any(CALLS);
         jollanqe_given given = call(which, record, any(5000), (uint8_t)any(256), lent);
         must(given.refused <= JOLLANQE_FOREIGN_CONTENTS, "a number of the table");
@@ -954,144 +756,6 @@ static void any_events(uint32_t count) {
     printf("ok: %u runs of any events: all taken, pictures drawn: %llu\n", count, (unsigned long long)refreshes);
 }
 
-/* ---- forecasts ---- */
-
-enum { LONGEST_CAPTURE = 65536 };
-
-/* A capture of a configuration of 312 bytes behind its events. */
-typedef struct capture {
-    uint8_t bytes[LONGEST_CAPTURE + 1];
-    size_t length;
-    uint32_t count;
-} capture;
-
-static void met(capture *c, uint64_t at, uint8_t kind, uint8_t value) {
-    uint8_t *event = c->bytes + JOLLANQE_EVENT_BYTES * c->count++;
-    put(event, at, 8);
-    event[8] = kind;
-    event[9] = value;
-}
-
-static void met_all(capture *c, uint64_t at, uint8_t command, const uint8_t *data, size_t count) {
-    met(c, at, JOLLANQE_COMMAND, command);
-    for (size_t i = 0; i < count; i++) {
-        met(c, at, JOLLANQE_DATA, data[i]);
-    }
-}
-
-/* Power on, one frame of black to white and two of white to black, and a refresh that runs from 100 to 4,100. */
-static void begun(capture *c) {
-    static const uint8_t tables[] = {0x3F}, one[] = {0x80, 1, 0, 0, 0, 1}, two[] = {0x40, 2, 0, 0, 0, 1};
-    c->count = 0;
-    met_all(c, 0, 0x00, tables, sizeof tables);
-    met_all(c, 0, 0x04, NULL, 0);
-    met_all(c, 100, 0x22, one, sizeof one);
-    met_all(c, 100, 0x23, two, sizeof two);
-    met_all(c, 100, 0x12, NULL, 0);
-}
-
-/* The forecast of these events under a configuration, in a block of exactly its length. */
-static jollanqe_needs foretold(capture *c, const uint8_t configuration[JOLLANQE_CONFIGURATION_BYTES]) {
-    size_t offset = JOLLANQE_EVENT_BYTES * (size_t)c->count;
-    c->length = offset + FILE_BYTES;
-    must(c->length <= sizeof c->bytes, "the capture has room");
-    memcpy(c->bytes + offset, configuration, JOLLANQE_CONFIGURATION_BYTES);
-    put(c->bytes + c->length - 8, offset, 4);
-    put(c->bytes + c->length - 4, c->count, 4);
-    uint8_t *file = room(c->length, 1);
-    memcpy(file, c->bytes, c->length);
-    jollanqe_needs needs = jollanqe_forecast(file, c->length);
-    free(file);
-    return needs;
-}
-
-static void needs(jollanqe_needs n, uint64_t ended, uint16_t stored, uint64_t deadline, uint64_t frames) {
-    must(n.refused == 0 && n.ended == ended && n.stored == stored && n.dropped == 0, "refreshes and rows");
-    must(n.known == (deadline != 0) && n.deadline == deadline && n.frames == frames, "deadline and frames");
-}
-
-static void needs_nothing(uint8_t refused, jollanqe_needs n) {
-    must(n.refused == refused, "refused by this number");
-    must(n.ended == 0 && n.stored == 0 && n.dropped == 0 && n.deadline == 0 && n.frames == 0 && !n.known, "zeros");
-}
-
-static void forecasts_counted(capture *c, const uint8_t *configuration) {
-    begun(c);
-    needs(foretold(c, configuration), 0, 2, 4100, 0);
-    met(c, 4100, JOLLANQE_ADVANCE, 0);
-    needs(foretold(c, configuration), 1, 2, 0, 3);
-    static const struct {
-        uint64_t at, frames;
-        uint16_t rows;
-    } cuts[] = {{100, 0, 3}, {1099, 0, 3}, {1100, 2, 3}, {2100, 3, 3}, {4099, 3, 3}, {4100, 3, 2}};
-    for (size_t i = 0; i < sizeof cuts / sizeof *cuts; i++) {
-        begun(c);
-        met(c, cuts[i].at, JOLLANQE_RESET, 1);
-        needs(foretold(c, configuration), 1, cuts[i].rows, 0, cuts[i].frames);
-    }
-    shown("a forecast counts refreshes and frames, cut ones too, and knows the deadline of what runs");
-}
-
-static void forecasts_refused(capture *c, const uint8_t *sound) {
-    uint8_t configuration[JOLLANQE_CONFIGURATION_BYTES];
-    static const struct {
-        size_t at;
-        uint64_t value;
-        int bytes;
-        uint8_t refused;
-    } changes[] = {{0, 2, 1, 9},     {1, 16, 1, 9}, {2, 0, 2, 1},   {4, 0, 2, 1},
-                   {2, 801, 2, 2},   {4, 601, 2, 2}, {8, 0, 8, 3},  {8, (uint64_t)1 << 63, 8, 3},
-                   {304, 0, 8, 4}};
-    for (size_t i = 0; i < sizeof changes / sizeof *changes; i++) {
-        begun(c);
-        memcpy(configuration, sound, sizeof configuration);
-        put(configuration + changes[i].at, changes[i].value, changes[i].bytes);
-        needs_nothing(changes[i].refused, foretold(c, configuration));
-    }
-    begun(c);
-    met(c, 4100, 7, 0);
-    needs_nothing(9, foretold(c, sound));
-    begun(c);
-    (void)foretold(c, sound);
-    needs_nothing(8, jollanqe_forecast(c->bytes, 0));
-    for (size_t length = 0; length < c->length; length++) {
-        needs_nothing(8, jollanqe_forecast(c->bytes, length));
-    }
-    uint8_t rated[FILE_BYTES + 8];
-    write_rated(rated, 0);
-    needs_nothing(13, jollanqe_forecast(rated, sizeof rated));
-    write_rated(rated, 1);
-    needs(jollanqe_forecast(rated, sizeof rated), 0, 0, 0, 0);
-    shown("a forecast is refused by 8, 9, 1, 2, 3, 4 and 13, and then has zeros");
-}
-
-static void forecasts_large(capture *c, const uint8_t *sound) {
-    uint8_t configuration[JOLLANQE_CONFIGURATION_BYTES];
-    memcpy(configuration, sound, sizeof configuration);
-    put(configuration + 2, JOLLANQE_MOST_SOURCES, 2);
-    put(configuration + 4, JOLLANQE_MOST_GATES, 2);
-    begun(c);
-    met(c, 4100, JOLLANQE_ADVANCE, 0);
-    needs(foretold(c, configuration), 1, 2, 0, 3);
-    c->count = 0;
-    while (c->count < 6521) {
-        met(c, 0, JOLLANQE_COMMAND, 0xFF);
-    }
-    jollanqe_needs n = foretold(c, configuration);
-    must(n.refused == 0 && n.stored == JOLLANQE_MOST_ROWS && n.dropped == 6521 - JOLLANQE_MOST_ROWS, "rows are dropped");
-    needs_nothing(8, jollanqe_forecast(c->bytes, LONGEST_CAPTURE + 1));
-    shown("a forecast takes panels up to 800 by 600 and 6,521 events");
-}
-
-static void forecasts(void) {
-    static capture c;
-    uint8_t file[FILE_BYTES];
-    write_file(file, 0);
-    forecasts_counted(&c, file);
-    forecasts_refused(&c, file);
-    forecasts_large(&c, file);
-}
-
 static void words(void) {
     must(strcmp(jollanqe_refusal_word(5), "buffer length") == 0, "5");
     must(strcmp(jollanqe_refusal_word(10), "too many pixels") == 0, "10");
@@ -1111,9 +775,6 @@ int main(int count, char **arguments) {
     pictures_refused();
     pictures_drawn();
     pictures_at_making();
-    between_refused();
-    between_no_refresh();
-    between_frames();
     ragged_events();
     unlisted_kinds();
     answers();
@@ -1122,7 +783,6 @@ int main(int count, char **arguments) {
     enum_numbers();
     times();
     vcom_rules();
-    forecasts();
     words();
     random_records(tries);
     damaged_records(tries);

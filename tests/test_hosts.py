@@ -194,72 +194,6 @@ class Example(unittest.TestCase):
                 self.assertEqual(panel.picture_at(top), [grey] * 8)
                 self.assertTrue(swing > 3 or grey == {255: 170, 65_535: 43_690}[top])
 
-    def stepping(self, by_frame, start=100):
-        """A refresh of frames of 1,000 from `start` on, by a rule. VCOM has 0 2 3 0 2 3, of which the last floats; four
-        pixels, black to white, have 2 2 1, the others 2 2 2 2 2. A frame of code 2 beside 0 is a quarter of a swing."""
-        panel = Panel(replace(SMALL, full_swing=2 * SWING, vcom_by_frame=by_frame))
-        panel.send(0, 0x00, [0x3F])
-        panel.send(0, 0x04)
-        panel.send(start, 0x20, [0x2C, 1, 1, 1, 0, 2])
-        panel.send(start, 0x22, [0x90, 2, 1, 0, 0, 1])
-        panel.send(start, 0x24, [0x80, 5, 0, 0, 0, 1])
-        panel.send(start, 0x13, [0xF0])
-        panel.send(start, 0x12)
-        return panel
-
-    def greys(self, by_frame):
-        """After 0 frames, 1, .. to 6, VCOM's length, and as many more, worked by hand."""
-        four = [0, 64, 64, 64, 64, 64, 64] if by_frame else [0, 64, 128, 0, 0, 0, 0]
-        others = [0, 64, 64, 64, 128, 128, 128] if by_frame else [0, 64, 128, 191, 255, 255, 255]
-        greys = [bytes([a] * 4 + [b] * 4) for a, b in zip(four, others)]
-        return greys + greys[-1:] * 7
-
-    def after(self, by_frame, call):
-        """The picture that a call leaves on such a panel."""
-        panel = self.stepping(by_frame)
-        call(panel)
-        self.assertEqual(panel.image.generation, 1)
-        return bytes(panel.picture)
-
-    def test_the_glass_between_frames(self):
-        for by_frame in (False, True):
-            panel, greys = self.stepping(by_frame), self.greys(by_frame)
-            self.assertEqual(panel.deadline(), 8_100)
-            self.assertEqual(list(panel.between(0)), panel.picture_at(255))
-            before = everything(panel)
-            for frames in range(14):
-                self.assertEqual(panel.between(frames), greys[frames])
-                seen = bytearray(b"\x55" * 8)
-                self.assertIsNone(panel.between(frames, seen))
-                self.assertEqual(seen, greys[frames])
-            for frames in range(8):
-                for elapsed in (1_000 * frames, 1_000 * frames + 999):
-                    cut = self.after(by_frame, lambda copy: copy.reset(100 + elapsed, True))
-                    self.assertEqual(cut, greys[frames])
-            ended = self.after(by_frame, lambda copy: copy.advance(8_100))
-            self.assertEqual([ended, panel.between(2**64 - 1)], [greys[6]] * 2)
-            self.assertEqual(everything(panel), before)
-
-    def test_the_glass_between_frames_does_not_go_by_the_clock(self):
-        for by_frame in (False, True):
-            late, held = self.stepping(by_frame), self.stepping(by_frame, 2**64 - 1_500)
-            late.vcom_rule(8_099, not by_frame)
-            self.assertEqual(held.deadline(), 2**64 - 1)
-            for frames, greys in enumerate(self.greys(by_frame)):
-                self.assertEqual([late.between(frames), held.between(frames)], [greys] * 2)
-
-    def test_between_frames_with_no_refresh_running(self):
-        panel = Panel(replace(SMALL, initial_grey=200, full_swing=3))
-        for call in (lambda: None, lambda: panel.send(0, 0x04), lambda: panel.advance(100), lambda: panel.reset(200, True)):
-            call()
-            for frames in (0, 1, 2**64 - 1):
-                self.assertEqual(panel.between(frames), b"\xc8" * 8)
-        panel.picture[:] = range(8)
-        self.assertEqual(panel.between(3), bytes(range(8)))
-        panel = refreshing()
-        panel.advance(3_100)
-        self.assertEqual(panel.between(0), bytes([128] * 4 + [0] * 4))
-
     def test_threads_take_turns(self):
         panel = Panel(SMALL)
         work = [threading.Thread(target=lambda: [panel.command(0, 0xFF) for _ in range(400)]) for _ in range(5)]
@@ -346,95 +280,6 @@ class Cases(unittest.TestCase):
             jollanqe.read_capture(file[:-8] + bytes(4) + file[-8:])
 
 
-def sent(at, command, data=b""):
-    """A command and its data bytes as events."""
-    return event(at, jollanqe.COMMAND, command) + b"".join(event(at, jollanqe.DATA, byte) for byte in data)
-
-
-# one frame of black to white and two of white to black, and a refresh of them from 100 to 4,100
-BEGUN = (
-    sent(0, 0x00, [0x3F])
-    + sent(0, 0x04)
-    + sent(100, 0x22, [0x80, 1, 0, 0, 0, 1])
-    + sent(100, 0x23, [0x40, 2, 0, 0, 0, 1])
-    + sent(100, 0x12)
-)
-
-
-def walked(panel, rate):
-    """The frames of the refresh that a panel ended last, by its tables and, where it was cut, by its two times."""
-    record = panel.record
-    longest = 2**64
-    if record.image.interrupted:
-        longest = (record.image.at - record.image.started) * 10**9 // rate // record.waveform.frame_ns
-    frames = 0
-    for table in record.waveform.tables[1:]:
-        repeats = [group.repeats for group in table] + [0]
-        groups = table[: repeats.index(0)]
-        frames += min(longest, sum(group.repeats * sum(group.frames) for group in groups))
-    return frames
-
-
-class Forecasts(unittest.TestCase):
-    def foretold(self, events, **changes):
-        return jollanqe.forecast(jollanqe.write_capture(replace(SMALL, **changes), events))
-
-    def test_refreshes_rows_deadline_and_frames(self):
-        self.assertEqual(self.foretold(BEGUN), jollanqe.Forecast(0, 2, 0, 4_100, 0))
-        whole = jollanqe.Forecast(1, 2, 0, None, 3)
-        self.assertEqual(self.foretold(BEGUN + event(4_100, jollanqe.ADVANCE)), whole)
-        self.assertEqual(self.foretold(BEGUN + event(4_100, jollanqe.RESET, 1)), whole)
-        for at, frames in [(0, 0), (1_099, 0), (1_100, 2), (2_099, 2), (2_100, 3), (4_099, 3)]:
-            cut = self.foretold(BEGUN + event(at, jollanqe.RESET, 1))
-            self.assertEqual(cut, jollanqe.Forecast(1, 3, 0, None, frames))
-        large = self.foretold(BEGUN + event(4_100, jollanqe.ADVANCE), sources=800, gates=600)
-        self.assertEqual(large, whole)
-        self.assertEqual(self.foretold(BEGUN, power_on=2**64 - 1).deadline, 2**64 - 1)
-        many = self.foretold(event(0, jollanqe.COMMAND, 0xFF) * 6_521)
-        self.assertEqual(many, jollanqe.Forecast(0, 1_024, 6_521 - 1_024, None, 0))
-
-    def test_every_stored_case_as_it_runs(self):
-        for case in sorted((ROOT / "oracle" / "cases").glob("*.capture")):
-            file = case.read_bytes()
-            said = printed(file)
-            with self.subTest(case.stem):
-                if said == "no events\n" or said.startswith("refused") and said != "refused 10\n":
-                    number = 8 if said == "no events\n" else int(said.split()[1])
-                    with self.assertRaisesRegex(Refused, f"^refused {number}: "):
-                        jollanqe.forecast(file)
-                    continue
-                configuration, events = jollanqe.read_capture(file)
-                panel, frames = Panel(configuration), 0
-                for at in range(0, len(events), jollanqe.EVENT_BYTES):
-                    before = panel.image.generation
-                    panel.run(events[at : at + jollanqe.EVENT_BYTES])
-                    if panel.image.generation != before:
-                        frames += walked(panel, configuration.rate)
-                ran = (panel.image.generation, panel.stored, panel.dropped, panel.deadline(), frames)
-                self.assertEqual(jollanqe.forecast(file), jollanqe.Forecast(*ran))
-
-    def test_what_is_refused(self):
-        file = jollanqe.write_capture(SMALL, BEGUN)
-        for length in range(len(file)):
-            with self.assertRaisesRegex(Refused, "^refused 8: broken capture"):
-                jollanqe.forecast(file[:length])
-        changes = [(1, {"gates": 0}), (2, {"sources": 801}), (3, {"full_swing": 0}), (4, {"frame_periods": (0,) * 32})]
-        for number, change in changes + [(13, {"rate": 0})]:
-            with self.assertRaisesRegex(Refused, f"^refused {number}: {jollanqe.WORDS[number]}"):
-                self.foretold(BEGUN, **change)
-        with self.assertRaisesRegex(Refused, "^refused 9: bad event"):
-            self.foretold(BEGUN + event(9, 7))
-        with self.assertRaisesRegex(Refused, "^refused 8: broken capture"):
-            self.foretold(event(0, jollanqe.COMMAND, 0xFF) * 6_522)
-
-    def test_what_is_no_file(self):
-        for wrong in (5, None, "name.capture", [256], [-1]):
-            with self.assertRaises((TypeError, ValueError)):
-                jollanqe.forecast(wrong)
-        file = jollanqe.write_capture(SMALL, BEGUN)
-        self.assertEqual(jollanqe.forecast(bytearray(file)), jollanqe.forecast(memoryview(file)))
-
-
 class Refusals(unittest.TestCase):
     def refused(self, number, call):
         with self.assertRaises(Refused) as caught:
@@ -489,11 +334,8 @@ class Refusals(unittest.TestCase):
             panel.record = record
             self.each_refused(6, panel)
             bit, picture = lambda: panel.bit("old", 0, 0), lambda: panel.picture_at(255)
-            for question in (panel.take, panel.deadline, lambda: panel.busy(0), bit, picture, lambda: panel.between(1)):
+            for question in (panel.take, panel.deadline, lambda: panel.busy(0), bit, picture):
                 self.refused(6, question)
-            seen = bytearray(b"\x55" * 9)
-            self.refused(6, lambda: panel.between(1, seen))
-            self.assertEqual(seen, b"\x55" * 9)
 
     def test_foreign_contents_7(self):
         for wrong in (-1, SWING + 1):
@@ -522,30 +364,6 @@ class Refusals(unittest.TestCase):
         panel.record = record
         self.refused(5, lambda: panel.picture_at(255))
         self.refused(5, lambda: panel.picture_at(255, array.array("H", [0] * 16)))
-
-    def between_refused(self, number, panel, length):
-        seen, before = bytearray(b"\x55" * length), everything(panel)
-        for frames in (0, 1, 2**64 - 1):
-            self.refused(number, lambda: panel.between(frames, seen))
-        self.assertEqual(seen, b"\x55" * length)
-        self.assertEqual(everything(panel), before)
-
-    def test_between_frames_5_and_7_refresh_or_not(self):
-        for make in (refreshing, lambda: Panel(SMALL)):
-            panel = make()
-            for length in (0, 7, 9):
-                self.between_refused(5, panel, length)
-            for at, wrong in [(0, -1), (7, SWING + 1), (3, -(2**63)), (3, 2**63 - 1)]:
-                kept, panel.states[at] = panel.states[at], wrong
-                self.between_refused(7, panel, 8)
-                self.between_refused(5, panel, 9)
-                panel.states[at] = kept
-            self.assertEqual(panel.between(0), bytes(8))
-            record = panel.record
-            record.panel.sources = 16
-            panel.record = record
-            self.between_refused(5, panel, 8)
-            self.between_refused(5, panel, 16)
 
     def test_a_run_that_is_refused_in_part(self):
         panel = refreshing()
@@ -596,12 +414,6 @@ class Seen(unittest.TestCase):
             lambda: panel.picture_at(255, bytes(16)),
             lambda: panel.picture_at(255, bytearray(15)),
             lambda: panel.picture_at(255, panel.states),
-            lambda: panel.between(-1),
-            lambda: panel.between(2**64),
-            lambda: panel.between(1, bytes(8)),
-            lambda: panel.between(1, memoryview(bytearray(16))[::2]),
-            lambda: panel.between(1, panel.picture),
-            lambda: panel.between(1, panel.old),
             lambda: Panel(replace(SMALL, sources=-8)),
             lambda: Panel(replace(SMALL, gates=65_536)),
             lambda: Panel(replace(SMALL, ambient=128)),
@@ -615,9 +427,6 @@ class Seen(unittest.TestCase):
             lambda: panel.data(0, "a"),
             lambda: panel.picture_at("white"),
             lambda: panel.picture_at(255, [0] * 8),
-            lambda: panel.between("all"),
-            lambda: panel.between(0.5),
-            lambda: panel.between(1, [0] * 8),
             lambda: panel.vcom_rule(0, 1),
             lambda: panel.vcom_rule(0, 2),
             lambda: panel.send(0, 0x10, 5),

@@ -1,5 +1,5 @@
 #!/usr/bin/env python3
-"""tools/morning: the summary, the sum and the status, names, pictures, photographs, refusals, diagnostics, cuts, and all
+"""tools/morning: the summary and the status, names, pictures, photographs, refusals, diagnostics, cuts, and all
 that can go wrong. Captures are made here; what is expected of them is what docs/FORMAT.md says. Run by tools/check,
 after jollanqe is built; JOLLANQE_PROGRAM names another program."""
 
@@ -247,146 +247,6 @@ class Summary(Case):
         self.assertTrue(all(link.startswith(("#c", "data:image/")) for link in tags.links), tags.links)
         self.assertNotRegex(page, r"https?:|url\(|@import")
         self.assertIn("This page is not proved.", page)
-
-
-class Sums(Case):
-    def sum(self, page):
-        found = re.findall(r'<p class="sum">(.*?)</p>', page)
-        self.assertEqual(len(found), 1)
-        return found[0]
-
-    def watched(self):
-        """A stand-in that keeps the jobs of forecast."""
-        return self.program(f"#!/bin/sh\ntee {self.base}/jobs | {PROGRAM}\n")
-
-    def jobs(self):
-        return [line for line in (self.base / "jobs").read_text().splitlines() if line.startswith("forecast ")][1:]
-
-    def test_a_night(self):
-        # of each: refreshes ended, diagnostics, frames, whether one runs
-        begun = capture(started(4))  # 0, 0, 0, runs
-        powering = capture(send(0, 0x04))  # 0, 0, 0, runs
-        # EXAMPLE 1, 1, 1; CUT 1, 1, 2; CLEAN 1, 0, 1; QUIET nothing
-        self.put(a=EXAMPLE, b=CUT, c=REFUSED, d=b"", e=QUIET, f=begun, g=powering, h=CLEAN)
-        page = self.shows(status=1)
-        wanted = "6 played: 3 refreshes ended, 2 diagnostics stored, 0 dropped, 4 frames driven; 2 end with an operation running"
-        self.assertEqual(self.sum(page), wanted)
-        self.assertIn(f'2 refused, 1 refresh cut</p>\n<p class="sum">{wanted}</p>\n<nav', page)
-        self.assertEqual(self.out, f"8 captures, 2 refused, 1 refresh cut | {self.night}/morning.html\n")
-        self.assertEqual(self.err, "")
-
-    def test_one(self):
-        self.put(a=EXAMPLE)
-        wanted = "1 played: 1 refresh ended, 1 diagnostic stored, 0 dropped, 1 frame driven; none ends with an operation running"
-        self.assertEqual(self.sum(self.shows()), wanted)
-
-    def test_one_runs(self):
-        self.put(a=capture(started()), b=QUIET)
-        self.assertTrue(self.sum(self.shows()).endswith("; 1 ends with an operation running"))
-
-    def test_large_numbers(self):
-        rows = capture(send(0, 0xEE) * 6_000)  # 1,024 stored, 4,976 dropped
-        held = capture(send(2**64 - 1, 0x04))  # a deadline at 2^64 - 1
-        long = started(255) + [(10**9, ADVANCE, 0)]
-        for number in range(4):
-            self.put(**{f"rows-{number}": rows, f"held-{number}": held, f"long-{number}": capture(long)})
-        wanted = "12 played: 4 refreshes ended, 4,096 diagnostics stored, 19,904 dropped, 1,020 frames driven; "
-        self.assertEqual(self.sum(self.shows()), wanted + "4 end with an operation running")
-
-    def test_it_is_the_sum_of_what_stands_below(self):
-        again = [(at + 5_000, kind, value) for at, kind, value in started()] + [(9_000, ADVANCE, 0)]
-        twice = capture(started() + [(3_100, ADVANCE, 0)] + again)
-        self.put(a=EXAMPLE, b=CUT, c=rated(CLEAN, 1_000_000_000), d=twice, e=capture(send(0, 0xEE) * 1_030))
-        page = self.shows()
-        generations = sum(int(n) for n in re.findall(r"generation (\d+),", page))
-        badges = sum(int(n.replace(",", "")) for n in re.findall(r">([\d,]+) diagnostics?</span>", page))
-        ended, stored, dropped = re.search(r": (\d+) refreshes ended, ([\d,]+) diagnostics stored, (\d+) dropped", self.sum(page)).groups()
-        self.assertEqual((int(ended), int(stored.replace(",", "")) + int(dropped)), (generations, badges))
-        self.assertEqual((ended, dropped), ("5", "6"))
-
-    def test_none_was_played(self):
-        self.put(a=REFUSED, b=b"")
-        page = self.shows(status=1, program=self.watched())
-        self.assertNotIn('class="sum"', page)
-        self.assertNotIn("no sum", page)
-        self.assertEqual(self.jobs(), [])
-
-    def test_names_with_blanks_and_odd_bytes(self):
-        folder = os.fsencode(self.night)
-        for name in (b"a b", b"a\nb", b"c\xff", b"> x", b"-", b"forecast 9 9 9 9 9 1", b"none"):
-            with open(os.path.join(folder, name + b".capture"), "wb") as file:
-                file.write(EXAMPLE)
-        with open(os.path.join(folder, b"refused 8.capture"), "wb") as file:
-            file.write(REFUSED)
-        page = self.shows(status=1)
-        wanted = "7 played: 7 refreshes ended, 7 diagnostics stored, 0 dropped, 7 frames driven; none ends with an operation running"
-        self.assertEqual(self.sum(page), wanted)
-
-    def test_captures_that_are_not_shown_are_left_out(self):
-        self.put(a=EXAMPLE, b=capture(started(), sources=800, gates=600))
-        (self.night / "gone.capture").symlink_to("nowhere")
-        tight = f"#!/bin/sh\ntrap '' XFSZ\nulimit -f 64\nexec {PROGRAM}\n"
-        page = self.shows(status=2, program=self.program(tight))
-        self.assertTrue(self.out.startswith("3 captures, 0 refused, 0 refreshes cut, 2 not shown | "), self.out)
-        wanted = "1 played: 1 refresh ended, 1 diagnostic stored, 0 dropped, 1 frame driven; none ends with an operation running"
-        self.assertEqual(self.sum(page), wanted)
-
-    def test_one_job(self):
-        self.put(**{f"n{n}": REFUSED if n == 3 else CLEAN for n in range(9)})
-        self.shows(status=1, program=self.watched())
-        self.assertEqual(self.jobs(), ["forecast 1 2 3 5 6 7 8 9 > 0.forecast"])
-
-    def test_several_jobs(self):
-        self.put(**{f"n{n}": REFUSED if n in (1, 4, 5) else CLEAN for n in range(7)})
-        tool = loaded()
-        tool.TOGETHER = 2
-        page = str(self.night / "morning.html")
-        night, whole = tool.morning(str(self.night), page, str(self.watched()))
-        self.assertEqual((whole, night.sum), (True, tool.Sum(captures=4, ended=4, frames=4)))
-        self.assertEqual(self.jobs(), [f"forecast {numbers} > 0.forecast" for numbers in ("1", "3 4", "7")])
-        self.assertTrue(self.sum(self.page()).startswith("4 played: 4 refreshes ended, 0 diagnostics stored, "))
-
-    def test_the_longest_job(self):
-        tool = loaded()
-        numbers = list(range(10**7 - tool.TOGETHER, 10**7))
-        self.assertEqual(tool.TOGETHER, 1_000)
-        for number in numbers:
-            (self.space / str(number)).write_bytes(EXAMPLE)
-        total = tool.Sum()
-        with tool.Batch(PROGRAM, self.space) as batch:
-            tool.foretell(batch, numbers, total)
-            batch.finish()
-        self.assertEqual(total, tool.Sum(captures=1_000, ended=1_000, stored=1_000, frames=1_000))
-        self.assertEqual(os.listdir(self.space), ["mark"])
-
-    def no_sum(self, words, jobs, first=":"):
-        """The page without its sum, and the words why; the jobs come through a command, behind a first one."""
-        self.put(a=EXAMPLE, b=CLEAN)
-        page = self.shows(status=2, program=self.program(f"#!/bin/sh\n{first}\n{jobs} | {PROGRAM}\n"))
-        self.assertEqual(self.err, f"morning: no sum: {words.replace('`', '')}\n")
-        self.assertIn(f'<p class="refusal"><b>no sum</b>: {loaded().marked(words)}</p>', page)
-        self.assertNotIn('class="sum"', page)
-        self.assertEqual(self.out, f"2 captures, 0 refused, 0 refreshes cut | {self.night}/morning.html\n")
-        self.assertIn("generation 1", self.article(page, "a"))
-
-    def test_a_job_that_goes_wrong(self):
-        strange = "the program's answer was not understood: "
-        self.no_sum(f"{strange}a forecast of another capture", "sed -u 's/^forecast 1 2 /forecast 2 1 /'")
-        self.no_sum(f"{strange}1 forecast of 2 captures", "sed -u 's/^forecast 1 2 /forecast 1 /'")
-        self.no_sum("the program wrote nothing for `forecast`", "sed -u 's/^forecast 1 2 .*/cuts mark > known.cuts/'")
-        self.no_sum("a job failed: forecast: No space left on device", "cat", first="ln -s /dev/full 0.forecast")
-        lost = 'while read -r job; do case "$job" in "forecast 1 2 "*) rm 2; esac; echo "$job"; done'
-        self.no_sum("a job failed: forecast: No such file or directory", lost)
-
-    def test_lines_that_are_not_understood(self):
-        tool = loaded()
-        lines = ("forecast 1 1 0 none 1", "foretold 1 1 0 none 1 1", "forecast 1 1 0 soon 1 1", "forecast 1 x 0 none 1 1", "")
-        for line in (*lines, "forecast 1 1 0 none 1 1 1", "refused 8 1"):
-            with self.subTest(line=line), self.assertRaises(ValueError):
-                tool.Sum().add([line], [1])
-        total = tool.Sum()
-        total.add([f"forecast 1 2 3 {2**64 - 1} 4 1", "forecast 10 20 30 none 40 7"], [1, 7])
-        self.assertEqual(total, tool.Sum(2, 11, 22, 33, 44, 1))
 
 
 class Names(Case):
@@ -705,11 +565,6 @@ class WhatGoesWrong(Case):
         older = f"#!/bin/sh\nsed -u 's/^cuts /slices /' | {PROGRAM}\n"
         self.trouble("stand-in: does not know the word cuts: jollanqe: no such word", program=self.program(older))
 
-    def test_a_program_without_forecast(self):
-        self.put(a=CLEAN)
-        older = f"#!/bin/sh\nsed -u 's/^forecast /weather /' | {PROGRAM}\n"
-        self.trouble("stand-in: does not know the word forecast: jollanqe: no such word", program=self.program(older))
-
     def test_another_program(self):
         self.put(a=CLEAN)
         for other in ("cat", "yes", "cat /dev/zero"):
@@ -764,7 +619,7 @@ class WhatGoesWrong(Case):
         self.put(**{f"n{n}": CLEAN for n in range(9)})
         watching = f"#!/bin/sh\n{PROGRAM}\nls >{self.base}/left\n"
         self.shows(program=self.program(watching))
-        self.assertEqual((self.base / "left").read_text().split(), ["body", "known.cuts", "known.forecast", "mark"])
+        self.assertEqual((self.base / "left").read_text().split(), ["body", "known", "mark"])
 
     def test_standard_output_full(self):
         self.put(a=CLEAN)

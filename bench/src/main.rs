@@ -13,27 +13,12 @@ use panels::{long, plane_bytes, short, sized, x3};
 
 /// A full swing whose grey takes the other way.
 const WIDE_BITS: u32 = 56;
-/// The word for the table of `between` alone.
-const BETWEEN: &str = "between";
 /// Panels of so many pixels, twice and four times as many.
 const SIZES: [(u16, u16); 3] = [(400, 264), (400, 528), (800, 528)];
 
-/// The question for the glass between frames: in the middle of each waveform.
-fn between() {
-    println!("In mid-refresh, the question against what the Rust needs for that picture:\n");
-    table::head();
-    rows::between(&x3(None), &short(), 3);
-    rows::between(&x3(None), &long(), 3_063);
-}
-
 fn main() -> io::Result<()> {
-    match std::env::args().nth(1).as_deref() {
-        Some(programs::RUN) => return programs::be_the_rust(),
-        Some(BETWEEN) => {
-            between();
-            return Ok(());
-        }
-        _ => {}
+    if std::env::args().nth(1).as_deref() == Some(programs::RUN) {
+        return programs::be_the_rust();
     }
     let panel = x3(None);
     let plane = plane_bytes(&panel);
@@ -48,8 +33,6 @@ fn main() -> io::Result<()> {
     rows::refresh(&wide, &long(), false, "swing 2^56");
     rows::page_turn(&panel, "a whole page turn by `run`", 1);
     programs::whole_capture()?;
-    println!();
-    between();
     println!("\nWith pixels, by a pixel:\n");
     table::head();
     for (sources, gates) in SIZES {

@@ -64,29 +64,15 @@ pub fn sized(sources: u16, gates: u16) -> Configuration {
     }
 }
 
-/// The code of 30 that both sides are sent.
-const FRAME_RATE: u8 = 0x09;
-
-/// The frame period of a panel that is ready, in nanoseconds.
-pub fn period(configuration: &Configuration) -> u64 {
-    configuration.periods[usize::from(FRAME_RATE)]
-}
-
-/// A panel made, and set up.
+/// Powered, the whole panel as the area, NEW copied to OLD after a refresh.
 pub fn ready(configuration: &Configuration, waveform: &Waveform) -> Sides {
     let mut sides = Sides::new(configuration);
-    set_up(&mut sides, configuration, waveform);
-    sides
-}
-
-/// Powered, the whole panel as the area, NEW copied to OLD after a refresh.
-pub fn set_up(sides: &mut Sides, configuration: &Configuration, waveform: &Waveform) {
     let width = configuration.sources.next_multiple_of(8).to_be_bytes();
     let height = configuration.gates.to_be_bytes();
     sides.send(0x00, &[0x3F]);
     sides.send(0x61, &[width[0], width[1], height[0], height[1]]);
     sides.send(0x50, &[0x39, 0x07]);
-    sides.send(0x30, &[FRAME_RATE]);
+    sides.send(0x30, &[0x09]);
     for (command, table) in (0x20..).zip(&waveform.tables) {
         let mut bytes = table.clone();
         bytes.resize(42, 0);
@@ -94,6 +80,7 @@ pub fn set_up(sides: &mut Sides, configuration: &Configuration, waveform: &Wavef
     }
     sides.send(0x04, &[]);
     sides.settle();
+    sides
 }
 
 /// The pixel bytes of a plane that fills the panel.

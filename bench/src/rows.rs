@@ -6,7 +6,7 @@ use emu_core::Cycles;
 use oracle::capture::{self, Configuration, Event};
 use oracle::rng::Rng;
 
-use crate::panels::{Waveform, fill, noise, period, plane_bytes, ready, set_up, short};
+use crate::panels::{Waveform, fill, noise, plane_bytes, ready, short};
 use crate::sides::{DRF, DTM1, DTM2, Sides, Stream, sent};
 use crate::table::{ROUNDS, Row, timed};
 
@@ -106,49 +106,6 @@ pub fn refresh(configuration: &Configuration, waveform: &Waveform, starts: bool,
         start.print();
     }
     finish.print();
-}
-
-/// A copy of as many bytes as the Rust's panel owns: planes, states, picture, each pixel's number. It
-/// has no copy itself.
-fn copied(sides: &Sides) -> impl Sized + use<> {
-    let of = sides.ours.parts();
-    let planes = (of.old.clone(), of.new.clone());
-    (planes, of.states.clone(), [&of.picture; 2].map(Vec::clone))
-}
-
-/// The picture after so many frames of a refresh, where both sides stand then: our question, and a
-/// reset of the Rust, which has no other way to it, without a copy of its panel and with one.
-pub fn between(configuration: &Configuration, waveform: &Waveform, frames: u64) {
-    let what = format!("a picture after {frames} frames, {}", waveform.name);
-    let mut alone = Row::new(format!("{what}: a reset"), 1);
-    let mut kept = Row::new(format!("{what}: a copy and a reset"), 1);
-    let mut sides = ready(configuration, waveform);
-    let mut rng = Rng::new(SEED);
-    let mut seen = vec![0; configuration.pixels() as usize];
-    for round in 0..WARM + ROUNDS {
-        fill(&mut sides, &mut rng, plane_bytes(configuration));
-        begin(&mut sides);
-        sides.clock += frames * period(configuration);
-        sides.event(capture::ADVANCE, 0);
-        let (ours, answer) = timed(|| sides.ours.between(frames, &mut seen));
-        answer.expect("not refused");
-        let (copy, _) = timed(|| copied(&sides));
-        let now = Cycles(sides.clock);
-        let (reset, ()) = timed(|| sides.rust.set_reset(now, true));
-        assert!(sides.rust.panel_image().interrupted);
-        assert_eq!(seen, sides.rust.panel_image().pixels);
-        sides.ours.reset(sides.clock, true).expect("not refused");
-        sides.compare();
-        sides.event(capture::RESET, 0);
-        sides.settle();
-        set_up(&mut sides, configuration, waveform);
-        if round >= WARM {
-            alone.note(ours, reset);
-            kept.note(ours, copy + reset);
-        }
-    }
-    alone.print();
-    kept.print();
 }
 
 /// Two planes, a refresh and its end.

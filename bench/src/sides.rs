@@ -92,12 +92,6 @@ impl Sides {
         self.meet(Stream::new(sent(self.clock, command, data).collect()));
     }
 
-    /// Both meet an event at the clock, untimed.
-    pub fn event(&mut self, kind: u8, value: u8) {
-        let time = self.clock;
-        self.meet(Stream::new(vec![Event { time, kind, value }]));
-    }
-
     /// The end of what runs.
     pub fn deadline(&self) -> u64 {
         let end = self.rust.next_deadline().expect("something runs");

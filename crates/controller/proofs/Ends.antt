@@ -29,7 +29,7 @@ use Rattle.controller.specs.Reset.{cut_by, cleared, lowered_by, raised_by, reset
 use Rattle.controller.specs.Glass.{driven_at, numbers_now, walked}
 use Rattle.controller.specs.TurnedBack.{cuts, refresh_runs, ends_refresh}
 use Rattle.controller.specs.Counting.{own}
-use Rattle.controller.specs.Ask.{Ask, command, datum, reading, advance, reset, vcom_rule, taking, ask_busy, ask_deadline, ask_bit, ask_row, ask_picture, ask_between}
+use Rattle.controller.specs.Ask.{Ask, command, datum, reading, advance, reset, vcom_rule, taking, ask_busy, ask_deadline, ask_bit, ask_row, ask_picture}
 use Rattle.controller.specs.Ask.{when_of, clock_when, record_after, driven_by, lent_after, refused_by, did}
 use Rattle.controller.proofs.Keeps.{all_command, all_data, all_reading}
 use Rattle.controller.proofs.TurnedAway.{done_to, did_yes}
@@ -157,7 +157,6 @@ image_after ask_deadline p = refl
 image_after (ask_bit older x y) p = refl
 image_after (ask_row y) p = refl
 image_after (ask_picture top wide) p = refl
-image_after (ask_between frames buffer) p = refl
 
 -- the generation is one more, and holds at 2^64 - 1
 pub ended_generation : (r : Refresh) (p : Uc8253) → (ended_refresh r p).image.generation ≡ min (p.image.generation + 1) top

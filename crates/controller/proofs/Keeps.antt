@@ -31,7 +31,7 @@ use Rattle.controller.specs.DataByte.{more_of, purpose_of, past_row, pixel_chip,
 use Rattle.controller.specs.Reading as byte
 use Rattle.controller.specs.Reset.{cut_by, cleared, lowered_by, raised_by, reset_edge}
 use Rattle.controller.specs.Counting.{own}
-use Rattle.controller.specs.Ask.{Ask, command, datum, reading, advance, reset, vcom_rule, taking, ask_busy, ask_deadline, ask_bit, ask_row, ask_picture, ask_between}
+use Rattle.controller.specs.Ask.{Ask, command, datum, reading, advance, reset, vcom_rule, taking, ask_busy, ask_deadline, ask_bit, ask_row, ask_picture}
 use Rattle.controller.specs.Ask.{when_of, clock_when, record_after}
 
 pub record Kept (p q : Uc8253) : Type 0 where
@@ -205,7 +205,6 @@ config_after ask_deadline p = refl
 config_after (ask_bit older x y) p = refl
 config_after (ask_row y) p = refl
 config_after (ask_picture top wide) p = refl
-config_after (ask_between frames buffer) p = refl
 
 pub clock_after_lem : (a : Ask) (p : Uc8253) → (record_after own a p).now ≡ clock_when (when_of a) p.now
 unfolding record_after
@@ -221,4 +220,3 @@ clock_after_lem ask_deadline p = refl
 clock_after_lem (ask_bit older x y) p = refl
 clock_after_lem (ask_row y) p = refl
 clock_after_lem (ask_picture top wide) p = refl
-clock_after_lem (ask_between frames buffer) p = refl

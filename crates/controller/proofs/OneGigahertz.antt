@@ -43,7 +43,7 @@ use Rattle.controller.specs.DataByte.{more_of, soft_of, purpose_of, under, used_
 use Rattle.controller.specs.Reset.{raised_by, reset_edge}
 use Rattle.controller.specs.Glass.{driven_at, states_by, picture_by}
 use Rattle.controller.specs.TurnedBack.{ends_refresh}
-use Rattle.controller.specs.Ask.{Ask, command, datum, reading, advance, reset, vcom_rule, taking, ask_busy, ask_deadline, ask_bit, ask_row, ask_picture, ask_between}
+use Rattle.controller.specs.Ask.{Ask, command, datum, reading, advance, reset, vcom_rule, taking, ask_busy, ask_deadline, ask_bit, ask_row, ask_picture}
 use Rattle.controller.specs.Ask.{When, at, whenever, when_of, clock_when, chip_after, told_by, record_after, old_after, new_after, rows_after}
 use Rattle.controller.specs.Ask.{driven_when, driven_by, lent_after, refused_by, did_by}
 use Rattle.controller.proofs.Keeps.{kept_arrived, config_after, clock_after_lem}
@@ -163,7 +163,6 @@ time_of ask_deadline = 0
 time_of (ask_bit older x y) = 0
 time_of (ask_row y) = 0
 time_of (ask_picture top wide) = 0
-time_of (ask_between frames buffer) = 0
 
 -- ---- the parts of every call, of a record whose rate is 1 GHz
 chip_same : (a : Ask) (p : Uc8253) → Gigahertz p → chip_after own a p ≡ chip_after same a p
@@ -179,7 +178,6 @@ chip_same ask_deadline p e = refl
 chip_same (ask_bit older x y) p e = refl
 chip_same (ask_row y) p e = refl
 chip_same (ask_picture top wide) p e = refl
-chip_same (ask_between frames buffer) p e = refl
 
 record_same : (a : Ask) (p : Uc8253) → Gigahertz p → record_after own a p ≡ record_after same a p
 unfolding record_after
@@ -199,7 +197,6 @@ drive_same ask_deadline p e h k = refl
 drive_same (ask_bit older x y) p e h k = refl
 drive_same (ask_row y) p e h k = refl
 drive_same (ask_picture top wide) p e h k = refl
-drive_same (ask_between frames buffer) p e h k = refl
 
 lent_same : (a : Ask) (p : Uc8253) (b : Buffers) → driven_by own a p ≡ driven_by same a p → lent_after own a p b ≡ lent_after same a p b
 unfolding lent_after
@@ -242,7 +239,6 @@ when_within ask_deadline now h k = h
 when_within (ask_bit older x y) now h k = h
 when_within (ask_row y) now h k = h
 when_within (ask_picture top wide) now h k = h
-when_within (ask_between frames buffer) now h k = h
 
 pub ready : (a : Ask) (w : World) → time_of a ≤ top → Ready w → Ready (did_by own a w)
 unfolding did_by

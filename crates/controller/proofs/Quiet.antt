@@ -50,7 +50,7 @@ use Rattle.controller.specs.Reading as byte
 use Rattle.controller.specs.Reading.{read_more, after_read, reading_by}
 use Rattle.controller.specs.Reset.{cleared, lowered_by, raised_by, reset_edge}
 use Rattle.controller.specs.Calls.{first_chip}
-use Rattle.controller.specs.Ask.{Ask, command, datum, reading, advance, reset, vcom_rule, taking, ask_busy, ask_deadline, ask_bit, ask_row, ask_picture, ask_between}
+use Rattle.controller.specs.Ask.{Ask, command, datum, reading, advance, reset, vcom_rule, taking, ask_busy, ask_deadline, ask_bit, ask_row, ask_picture}
 use Rattle.controller.specs.Ask.{record_after}
 
 -- what stays of the record while an operation runs; the planes stay too (`plane_quiet`)
@@ -440,7 +440,6 @@ guarded_after ask_deadline p g = g
 guarded_after (ask_bit older x y) p g = g
 guarded_after (ask_row y) p g = g
 guarded_after (ask_picture top wide) p g = g
-guarded_after (ask_between frames buffer) p g = g
 
 -- ---- making
 pub guarded_made : (c : Uc8253Config) → GuardedIn (first_chip c)

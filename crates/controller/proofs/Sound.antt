@@ -59,7 +59,7 @@ use Rattle.controller.specs.TurnedBack.{foreign_contents, foreign_record, turned
 use Rattle.controller.specs.Calls.{first_chip, first_buffers, made}
 use Rattle.controller.specs.Sound.{SoundChip, Sound}
 use Rattle.controller.specs.Counting.{own}
-use Rattle.controller.specs.Ask.{Ask, command, datum, reading, advance, reset, vcom_rule, taking, ask_busy, ask_deadline, ask_bit, ask_row, ask_picture, ask_between}
+use Rattle.controller.specs.Ask.{Ask, command, datum, reading, advance, reset, vcom_rule, taking, ask_busy, ask_deadline, ask_bit, ask_row, ask_picture}
 use Rattle.controller.specs.Ask.{IsByte, When, at, whenever, when_of, clock_when, chip_after, told_by, record_after, copied_when, put_by}
 use Rattle.controller.specs.Ask.{old_after, new_after, rows_after, driven_by, lent_after}
 use Rattle.controller.proofs.Parts.{Lengths, lengths, fitting, sound_regs, sound_luts, sound_mode, sound_current, sound_image, sound_log}
@@ -232,7 +232,6 @@ sound_chip ask_deadline p b s = s
 sound_chip (ask_bit older x y) p b s = s
 sound_chip (ask_row y) p b s = s
 sound_chip (ask_picture top wide) p b s = s
-sound_chip (ask_between frames buffer) p b s = s
 
 pub sound_record : (a : Ask) (p : Uc8253) → IsByte a → SoundChip p → SoundChip (record_after own a p)
 unfolding record_after
@@ -267,7 +266,6 @@ module _ (mine : Use → Bool) (p : Uc8253) (l : List ℕ) where
   put_by_length (ask_bit older x y) = refl
   put_by_length (ask_row y) = refl
   put_by_length (ask_picture top wide) = refl
-  put_by_length (ask_between frames buffer) = refl
 
 module _ (p : Uc8253) (old new : List ℕ) where
   copied_by_length : (x : Work) → length (copied_by x p old new) ≡ length old

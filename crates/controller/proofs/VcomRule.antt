@@ -9,7 +9,7 @@ use Rattle.controller.specs.declared.Uc8253.{Uc8253}
 use Rattle.controller.specs.World.{World}
 use Rattle.controller.specs.Counting.{own}
 use Rattle.controller.specs.Arrives.{timed, ended, arrived}
-use Rattle.controller.specs.Ask.{Ask, command, datum, reading, advance, reset, vcom_rule, taking, ask_busy, ask_deadline, ask_bit, ask_row, ask_picture, ask_between}
+use Rattle.controller.specs.Ask.{Ask, command, datum, reading, advance, reset, vcom_rule, taking, ask_busy, ask_deadline, ask_bit, ask_row, ask_picture}
 use Rattle.controller.specs.Ask.{record_after, refused_by, did_by, did}
 use Rattle.controller.proofs.Keeps.{kept_arrived, kept_command, kept_data, kept_reading, kept_edge}
 
@@ -35,7 +35,6 @@ record_rule ask_deadline p o = refl
 record_rule (ask_bit older x y) p o = refl
 record_rule (ask_row y) p o = refl
 record_rule (ask_picture top wide) p o = refl
-record_rule (ask_between frames buffer) p o = refl
 
 pub rule_stays : (a : Ask) (w : World) → Other a → by_frame (did a w).chip ≡ by_frame w.chip
 unfolding did_by

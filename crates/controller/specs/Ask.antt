@@ -26,10 +26,9 @@ use Rattle.controller.specs.Planes.{old_arrived}
 use Rattle.controller.specs.Glass.{driven_at, states_by, picture_by}
 use Rattle.controller.specs.TurnedBack.{turned_back}
 use Rattle.controller.specs.Calls as calls
-use Rattle.controller.specs.Between as between
 
 -- times, command and data bytes, the reset line (true: asserted), VCOM's rule (true: rule 2), a plane (true: the old one), column and row;
--- a top, and the 16-bit buffer as it is lent; a count of frames, and the buffer of the glass between them as it is lent
+-- a top, and the 16-bit buffer as it is lent
 pub data Ask : Type 0 where
   command datum : ℕ → ℕ → Ask
   reading advance : ℕ → Ask
@@ -40,7 +39,6 @@ pub data Ask : Type 0 where
   ask_bit : Bool → ℕ → ℕ → Ask
   ask_row : ℕ → Ask
   ask_picture : ℕ → List ℕ → Ask
-  ask_between : ℕ → List ℕ → Ask
 
 -- command and data bytes are bytes
 abbrev pub IsByte : Ask → Type 0
@@ -56,7 +54,6 @@ IsByte ask_deadline = Unit {0}
 IsByte (ask_bit older x y) = Unit {0}
 IsByte (ask_row y) = Unit {0}
 IsByte (ask_picture top buffer) = Unit {0}
-IsByte (ask_between frames buffer) = Unit {0}
 
 -- ---- the parts of a call that is accepted
 -- a timed call has its time, and may assert reset; taking the rows and the questions have none
@@ -77,7 +74,6 @@ when_of ask_deadline = whenever
 when_of (ask_bit older x y) = whenever
 when_of (ask_row y) = whenever
 when_of (ask_picture top buffer) = whenever
-when_of (ask_between frames buffer) = whenever
 
 -- the record but for its log: the clock, what has come to its end, and then the call's own. Event kind 6 sets VCOM's rule and closes no
 -- command (2026-08); taking the rows empties the log; a question gives back no record, and the last one stands
@@ -94,7 +90,6 @@ chip_after clock ask_deadline p = p
 chip_after clock (ask_bit older x y) p = p
 chip_after clock (ask_row y) p = p
 chip_after clock (ask_picture top buffer) p = p
-chip_after clock (ask_between frames buffer) p = p
 
 -- what it tells; a command byte first what is told as the previous command closes, then its own
 abbrev pub told_by : Ask → Uc8253 → Notes
@@ -110,7 +105,6 @@ told_by ask_deadline p = silent
 told_by (ask_bit older x y) p = silent
 told_by (ask_row y) p = silent
 told_by (ask_picture top buffer) p = silent
-told_by (ask_between frames buffer) p = silent
 
 -- 1. the record, of the record and the call alone
 unfoldable pub record_after : (Uc8253 → Counting) → Ask → Uc8253 → Uc8253
@@ -139,7 +133,6 @@ put_by mine ask_deadline p l = l
 put_by mine (ask_bit older x y) p l = l
 put_by mine (ask_row y) p l = l
 put_by mine (ask_picture top buffer) p l = l
-put_by mine (ask_between frames buffer) p l = l
 
 unfoldable pub old_after : Ask → Uc8253 → List ℕ → List ℕ → List ℕ
 old_after a p old new = put_by for_old a p (copied_when (when_of a) p old new)
@@ -184,7 +177,6 @@ refused_by ask_deadline w = calls.question_refused w.chip
 refused_by (ask_bit older x y) w = calls.bit_refused w.chip (pick older w.lent.old w.lent.new)
 refused_by (ask_row y) w = calls.row_refused w.chip w.lent.picture
 refused_by (ask_picture top buffer) w = calls.wide_refused w.chip w.lent.states (length buffer)
-refused_by (ask_between frames buffer) w = between.between_refused w.chip w.lent (length buffer)
 
 -- ---- the call: refused first, with the record given back and no lent entry changed
 unfoldable pub did_by : (Uc8253 → Counting) → Ask → World → World
@@ -195,7 +187,7 @@ abbrev pub did : Ask → World → World
 did = did_by own
 
 -- what a call hands back besides the record: the byte of a read, how many rows were taken, whether the busy pin is low, the deadline,
--- a bit of the RAM, a part of the picture, the 16-bit buffer as it is left, and that of the glass between frames
+-- a bit of the RAM, a part of the picture, the 16-bit buffer as it is left
 pub data Answer : Type 0 where
   nothing : Answer
   byte : Read → Answer
@@ -205,7 +197,6 @@ pub data Answer : Type 0 where
   bit : Found → Answer
   part : List ℕ → Answer
   wide : List ℕ → Answer
-  seen : List ℕ → Answer
 
 abbrev pub answered : Ask → World → Answer
 answered (command t c) w = nothing
@@ -220,7 +211,6 @@ answered ask_deadline w = due (calls.deadline_answer w.chip)
 answered (ask_bit older x y) w = bit (calls.bit_answer w.chip (pick older w.lent.old w.lent.new) x y)
 answered (ask_row y) w = part (calls.row_answer w.chip w.lent.picture y)
 answered (ask_picture top buffer) w = wide (calls.wide_answer w.chip w.lent.states top buffer)
-answered (ask_between frames buffer) w = seen (between.between_answer w.chip w.lent frames buffer)
 
 -- the calls that may change a lent entry; taking the rows and the questions change none
 abbrev pub writes : Ask → Bool
@@ -236,4 +226,3 @@ writes ask_deadline = false
 writes (ask_bit older x y) = false
 writes (ask_row y) = false
 writes (ask_picture top buffer) = false
-writes (ask_between frames buffer) = false

@@ -13,6 +13,5 @@ pub mod Planes
 pub mod Glass
 pub mod Sound
 pub mod Calls
-pub mod Between
 pub mod Ask
 pub mod Lent

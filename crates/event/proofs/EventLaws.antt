@@ -17,7 +17,7 @@ use Rattle.controller.specs.World.{World}
 use Rattle.controller.specs.TurnedBack.{turned_back}
 use Rattle.controller.specs.Calls.{read_answer}
 use Rattle.controller.specs.Ask.{command, datum, reading, advance, reset, vcom_rule, did}
-use Rattle.controller.specs.Ask.{Answer, nothing, byte, count, low, due, bit, part, wide, seen}
+use Rattle.controller.specs.Ask.{Answer, nothing, byte, count, low, due, bit, part, wide}
 use Rattle.event.specs.declared.Event.{Event}
 use Rattle.capture.specs.Little.{little}
 use Rattle.event.specs.Events.{event_at, asserts, event_done, event_done_by, event_refused, read_number, event_answer}
@@ -101,7 +101,6 @@ number_in (due d) = 0
 number_in (bit f) = 0
 number_in (part l) = 0
 number_in (wide l) = 0
-number_in (seen l) = 0
 
 -- ---- the bytes of an event
 pub event_past : (bytes : List ℕ) (i : ℕ) → length bytes / 10 < i → record { time = 0; kind = 0; value = 0 } ≡ event_at bytes i

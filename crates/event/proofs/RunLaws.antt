@@ -80,7 +80,7 @@ byte_anywhere bytes b k = elim (dec_le (length bytes) k) [
 pub front_byte : (n : ℕ) (l : List ℕ) → Bytes l → Bytes (take n l)
 front_byte n l h k q = rw (get_or-take n l k 0 (omega (arith, length-take n l))) (byte_anywhere l h k)
 
-pub value_byte : (bytes : List ℕ) → Bytes bytes → (i : ℕ) → (event_at bytes i).value < 256
+value_byte : (bytes : List ℕ) → Bytes bytes → (i : ℕ) → (event_at bytes i).value < 256
 unfolding event_at
 value_byte bytes b i = byte_anywhere bytes b (i * 10 + 9)
 

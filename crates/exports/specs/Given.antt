@@ -8,7 +8,7 @@ use Rattle.controller.specs.declared.Due.TheVariants as dues
 use Rattle.controller.specs.World.{World, Buffers, world}
 use Rattle.controller.specs.TurnedBack.{foreign_record, lent_fits, making_refused}
 use Rattle.controller.specs.Calls.{made}
-use Rattle.controller.specs.Ask.{Ask, Answer, nothing, byte, count, low, due, bit, part, wide, seen, did, refused_by, answered}
+use Rattle.controller.specs.Ask.{Ask, Answer, nothing, byte, count, low, due, bit, part, wide, did, refused_by, answered}
 use Rattle.controller.specs.Lent.{Over, before, after}
 use Rattle.event.specs.Events as runs
 use Rattle.exports.specs.declared.Given.{Given}
@@ -31,7 +31,6 @@ answer_number (due d) = 257
 answer_number (bit f) = 257
 answer_number (part l) = 257
 answer_number (wide l) = 257
-answer_number (seen l) = 257
 
 -- a call on the record of the numbers, with what is lent
 abbrev pub given : Ask → Handed → Buffers → Given
@@ -74,7 +73,6 @@ asked_of n (byte r) = record { value = 0; refused = n; known = false }
 asked_of n (count m) = record { value = 0; refused = n; known = false }
 asked_of n (part l) = record { value = 0; refused = n; known = false }
 asked_of n (wide l) = record { value = 0; refused = n; known = eqb n 0 }
-asked_of n (seen l) = record { value = 0; refused = n; known = eqb n 0 }
 
 -- a question about the record of the numbers, with what is lent
 abbrev pub asked : Ask → Handed → Buffers → Asked

@@ -1,4 +1,3 @@
 pub mod Taken
 pub mod Handed
 pub mod Given
-pub mod Needed

@@ -1,16 +1,14 @@
 // The controller for programs in other languages: the record crosses as numbers and plain structs,
-// handed over and taken back, and each call is the one of `uc8253`, `events` or `forecasting` that it
-// passes on.
+// handed over and taken back, and each call is the one of `uc8253` or `events` that it passes on.
 #![tactic(auto)]
 
 mod handed;
-mod needs;
 mod taken;
 
-ghost use Rattle.std.specs.Prelude.{◌≡◌, true, false, List, ℕ};
+ghost use Rattle.std.specs.Prelude.{◌≡◌, true, false};
 ghost use Rattle.base.specs.RefusalNumbers.{refusal_number};
 ghost use Rattle.capture.specs.Layout.{config_in};
-ghost use Rattle.controller.specs.World.{Buffers, buffers, world};
+ghost use Rattle.controller.specs.World.{Buffers, world};
 ghost use Rattle.controller.specs.Setters.{with_old, with_new, with_states, with_rows};
 ghost use Rattle.controller.specs.Calls.{made};
 ghost use Rattle.controller.specs.Ask as ask;
@@ -18,23 +16,19 @@ ghost use Rattle.controller.specs.Lent.{before, after};
 ghost use Rattle.event.specs.Events as runs;
 ghost use Rattle.exports.specs.Taken.{record_taken};
 ghost use Rattle.exports.specs.Given as rule;
-ghost use Rattle.exports.specs.Needed.{needs_given};
 
 use base::Refusal;
 use capture::{NO_READ, config};
 use controller::{Due, Uc8253};
 use events::{read_number, run};
-use forecasting::forecast;
 use handed::hand_over;
 pub use handed::{Handed, HandedActive, HandedImage, HandedOperation};
-pub use needs::Needs;
-use needs::numbers;
 use ram::Found;
 use rules::{foreign, lengths_fit};
 use taken::taken;
 use uc8253::{
-    Answer, advance, between_frames, busy_pin, next_deadline, power_on, ram_bit, read_data,
-    set_reset, set_vcom_rule, take_diagnostics, wide_picture, write_command, write_data,
+    Answer, advance, busy_pin, next_deadline, power_on, ram_bit, read_data, set_reset,
+    set_vcom_rule, take_diagnostics, wide_picture, write_command, write_data,
 };
 
 // The record after a call, what was handed in where the call was turned back; the number of the
@@ -346,32 +340,6 @@ pub extern "C" fn jollanqe_picture(
     }
 }
 
-// The picture that the glass has after a number of frames of the running refresh, at top 255, into the last buffer.
-#[unsafe(no_mangle)]
-pub extern "C" fn jollanqe_between(
-    chip: Handed,
-    frames: u64,
-    old: &[u8],
-    new: &[u8],
-    states: &[i64],
-    picture: &[u8],
-    seen: &mut [u8],
-) -> Asked
-    ensures by_index { (rows : List ℕ) → result ≡ rule.asked (ask.ask_between frames seen.old) chip
-        (buffers old.now new.now states.now picture.now rows) }
-    ensures by_index_2 { (rows : List ℕ) → ask.seen seen.new
-        ≡ ask.answered (ask.ask_between frames seen.old) (world (record_taken chip)
-        (buffers old.now new.now states.now picture.now rows)) }
-{
-    let p = taken(chip);
-    let refused = between_frames(p, frames, old, new, states, picture, seen);
-    Asked {
-        value: 0,
-        refused: refused.number(),
-        known: refused.none(),
-    }
-}
-
 fn due_asked(refused: Refusal, due: Due) -> Asked
     ensures { result ≡ rule.asked_of (refusal_number refused) (ask.due due) }
 {
@@ -431,12 +399,4 @@ pub extern "C" fn jollanqe_bit(chip: Handed, plane: &[u8], x: u16, y: u16) -> As
     let refused = b.refused;
     let found = b.found;
     found_asked(refused, found)
-}
-
-// What a capture will need, from its bytes alone: nothing else is lent.
-#[unsafe(no_mangle)]
-pub extern "C" fn jollanqe_forecast(file: &[u8]) -> Needs
-    ensures { result ≡ needs_given file.now }
-{
-    numbers(forecast(file))
 }

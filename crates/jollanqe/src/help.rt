@@ -24,23 +24,10 @@ pub(crate) fn say() {
     line(
         b"  jollanqe pictures FILE DIR    every picture, as DIR/GENERATION.png, with a line each\n",
     );
-    line(b"  jollanqe between COUNT FILE [pgm | png]\n");
-    line(
-        b"                                the glass after COUNT frames of the refresh that the capture\n",
-    );
-    line(b"                                ends in; png if nothing is said\n");
-    line(
-        b"  jollanqe film FILE DIR [STEP] the same every STEP frames, as DIR/0000000.png and so on;\n",
-    );
-    line(b"                                none given: at most 100 pictures\n");
     line(
         b"  jollanqe cuts FILE            the refreshes that reset cut: when, after how many whole\n",
     );
     line(b"                                frames, of how many\n");
-    line(
-        b"  jollanqe forecast FILE..      what captures will need, a line each: refreshes ended, rows\n",
-    );
-    line(b"                                stored and dropped, the deadline left, frames driven\n");
     line(b"  jollanqe config FILE          the 312 bytes of the configuration, for vcd\n");
     line(b"  jollanqe vcd CONFIG FILE [lines | pgm [TOP] | png [TOP]]\n");
     line(
@@ -100,25 +87,6 @@ pub(crate) fn wants_top() {
 // A top that a PNG file cannot have.
 pub(crate) fn no_png() {
     wanted(b"a PNG file's top is 255 or 65,535, since its white is no other: pgm takes every top");
-}
-
-// The same of the glass between frames.
-pub(crate) fn wants_still() {
-    wanted(
-        b"between wants a number of frames (up to 2^64 - 1), a file and at most one of pgm and png, as in: jollanqe between 12 night.capture",
-    );
-}
-
-// The same of a film.
-pub(crate) fn wants_film() {
-    wanted(
-        b"film wants a file, a folder and perhaps the frames from picture to picture, 1 or more, as in: jollanqe film night.capture night 5",
-    );
-}
-
-// The same of a forecast.
-pub(crate) fn wants_captures() {
-    wanted(b"forecast wants files, as in: jollanqe forecast night.capture morning.capture");
 }
 
 // The same of a dump.

@@ -1,10 +1,9 @@
 // One job: a word, its files, and where it writes.
 use crate::replay::Watch;
 use crate::task::Task;
-use crate::words::{Number, Top, count, number_in, same, top_in, word};
-use crate::{comparing, forecasts, help, task};
+use crate::words::{Top, count, same, top_in, word};
+use crate::{comparing, help, task};
 use files::is_input;
-use filming::Frames;
 use shades::Tone;
 use showing::Form;
 
@@ -16,9 +15,6 @@ pub(crate) enum Word {
     // Its last picture, perhaps at a top.
     Picture(Form),
     Pictures,
-    Between,
-    Film,
-    Forecast,
     Compare,
     Dump,
     Unknown,
@@ -66,15 +62,6 @@ fn sort(w: &[u8]) -> Word {
     if same(w, b"pictures") {
         return Word::Pictures;
     }
-    if same(w, b"between") {
-        return Word::Between;
-    }
-    if same(w, b"film") {
-        return Word::Film;
-    }
-    if same(w, b"forecast") {
-        return Word::Forecast;
-    }
     if same(w, b"compare") {
         return Word::Compare;
     }
@@ -109,7 +96,7 @@ fn target(line: &[u8], in_batch: bool) -> &[u8] {
 }
 
 // Whether a job of the batch names standard input, which is the batch itself.
-pub(crate) fn takes_batch(name: &[u8], in_batch: bool) -> bool {
+fn takes_batch(name: &[u8], in_batch: bool) -> bool {
     if !in_batch {
         return false;
     }
@@ -121,7 +108,7 @@ pub(crate) fn takes_batch(name: &[u8], in_batch: bool) -> bool {
 }
 
 // Whether a job would write over a file that it reads.
-pub(crate) fn writes_over(name: &[u8], out: &[u8]) -> bool {
+fn writes_over(name: &[u8], out: &[u8]) -> bool {
     if same(name, out) {
         help::wanted(b"an input would be written over: name another file");
         return true;
@@ -183,16 +170,13 @@ fn one_file(
     new: &mut [u8],
     states: &mut [i64],
     picture: &mut [u8],
-    seen: &mut [u8],
     rows: &mut [u64],
 ) {
     if before_target(line, in_batch) != 2 {
         help::wants_file(word(line, 0));
         return;
     }
-    with_file(
-        task, 1, line, in_batch, file, old, new, states, picture, seen, rows,
-    );
+    with_file(task, line, in_batch, file, old, new, states, picture, rows);
 }
 
 // The picture of one file, perhaps at a top.
@@ -205,14 +189,12 @@ fn one_picture(
     new: &mut [u8],
     states: &mut [i64],
     picture: &mut [u8],
-    seen: &mut [u8],
     rows: &mut [u64],
 ) {
     let c = tone(form, line, before_target(line, in_batch), 2);
     match c {
         Chosen::Tone(tone) => with_file(
             Task::Show(tone),
-            1,
             line,
             in_batch,
             file,
@@ -220,7 +202,6 @@ fn one_picture(
             new,
             states,
             picture,
-            seen,
             rows,
         ),
         Chosen::Wrong => help::wants_picture(word(line, 0)),
@@ -229,10 +210,9 @@ fn one_picture(
     }
 }
 
-// The file that a word of a line names.
+// The file that a line names.
 fn with_file(
     task: Task,
-    at: usize,
     line: &[u8],
     in_batch: bool,
     file: &mut [u8],
@@ -240,10 +220,9 @@ fn with_file(
     new: &mut [u8],
     states: &mut [i64],
     picture: &mut [u8],
-    seen: &mut [u8],
     rows: &mut [u64],
 ) {
-    let name = word(line, at);
+    let name = word(line, 1);
     if takes_batch(name, in_batch) {
         return;
     }
@@ -261,14 +240,12 @@ fn with_file(
         new,
         states,
         picture,
-        seen,
         rows,
     );
 }
 
-// A file and a folder, for which the task makes pictures.
+// A file and a folder.
 fn into_folder(
-    task: Task,
     line: &[u8],
     in_batch: bool,
     file: &mut [u8],
@@ -276,9 +253,14 @@ fn into_folder(
     new: &mut [u8],
     states: &mut [i64],
     picture: &mut [u8],
-    seen: &mut [u8],
     rows: &mut [u64],
 ) {
+    if before_target(line, in_batch) != 3 {
+        help::wanted(
+            b"pictures wants a file and a folder, as in: jollanqe pictures night.capture night",
+        );
+        return;
+    }
     let name = word(line, 1);
     if takes_batch(name, in_batch) {
         return;
@@ -289,163 +271,17 @@ fn into_folder(
         return;
     }
     task::run(
-        task, name, dir, out, file, old, new, states, picture, seen, rows,
-    );
-}
-
-// Every picture.
-fn every_picture(
-    line: &[u8],
-    in_batch: bool,
-    file: &mut [u8],
-    old: &mut [u8],
-    new: &mut [u8],
-    states: &mut [i64],
-    picture: &mut [u8],
-    seen: &mut [u8],
-    rows: &mut [u64],
-) {
-    if before_target(line, in_batch) != 3 {
-        help::wanted(
-            b"pictures wants a file and a folder, as in: jollanqe pictures night.capture night",
-        );
-        return;
-    }
-    into_folder(
         Task::Watch(Watch::Pictures),
-        line,
-        in_batch,
+        name,
+        dir,
+        out,
         file,
         old,
         new,
         states,
         picture,
-        seen,
         rows,
     );
-}
-
-// The step of a film by the n words of a line: 0 where none is given.
-fn step_in(line: &[u8], n: usize) -> Number {
-    if n == 3 {
-        return Number::Is(0);
-    }
-    if n != 4 {
-        return Number::No;
-    }
-    let step = number_in(word(line, 3));
-    match step {
-        Number::Is(frames) => {
-            if frames == 0 {
-                return Number::No;
-            }
-            Number::Is(frames)
-        }
-        Number::No => Number::No,
-    }
-}
-
-// The pictures between frames.
-fn film(
-    line: &[u8],
-    in_batch: bool,
-    file: &mut [u8],
-    old: &mut [u8],
-    new: &mut [u8],
-    states: &mut [i64],
-    picture: &mut [u8],
-    seen: &mut [u8],
-    rows: &mut [u64],
-) {
-    let step = step_in(line, before_target(line, in_batch));
-    match step {
-        Number::Is(frames) => into_folder(
-            Task::Frames(Frames::Film(frames)),
-            line,
-            in_batch,
-            file,
-            old,
-            new,
-            states,
-            picture,
-            seen,
-            rows,
-        ),
-        Number::No => help::wants_film(),
-    }
-}
-
-// The form of a picture between frames by the n words of a line: a PNG file where nothing is said.
-fn still_form(line: &[u8], n: usize) -> Chosen {
-    if n == 3 {
-        return Chosen::Tone(plain(Form::Png));
-    }
-    if n != 4 {
-        return Chosen::Wrong;
-    }
-    let w = word(line, 3);
-    if same(w, b"pgm") {
-        return Chosen::Tone(plain(Form::Graymap));
-    }
-    if same(w, b"png") {
-        return Chosen::Tone(plain(Form::Png));
-    }
-    Chosen::Wrong
-}
-
-// The picture after so many frames, in this form.
-fn still(
-    form: Form,
-    line: &[u8],
-    in_batch: bool,
-    file: &mut [u8],
-    old: &mut [u8],
-    new: &mut [u8],
-    states: &mut [i64],
-    picture: &mut [u8],
-    seen: &mut [u8],
-    rows: &mut [u64],
-) {
-    let count = number_in(word(line, 1));
-    match count {
-        Number::Is(frames) => with_file(
-            Task::Frames(Frames::Still(form, frames)),
-            2,
-            line,
-            in_batch,
-            file,
-            old,
-            new,
-            states,
-            picture,
-            seen,
-            rows,
-        ),
-        Number::No => help::wants_still(),
-    }
-}
-
-fn between(
-    line: &[u8],
-    in_batch: bool,
-    file: &mut [u8],
-    old: &mut [u8],
-    new: &mut [u8],
-    states: &mut [i64],
-    picture: &mut [u8],
-    seen: &mut [u8],
-    rows: &mut [u64],
-) {
-    let c = still_form(line, before_target(line, in_batch));
-    match c {
-        Chosen::Tone(tone) => {
-            let form = tone.form;
-            still(
-                form, line, in_batch, file, old, new, states, picture, seen, rows,
-            );
-        }
-        _ => help::wants_still(),
-    }
 }
 
 // Whether both files are standard input, which can be read once.
@@ -601,70 +437,11 @@ pub(crate) fn run(
     let w = sort(word(line, 0));
     match w {
         Word::Help => say_help(line),
-        Word::Task(task) => one_file(
-            task,
-            line,
-            in_batch,
-            file,
-            old,
-            new,
-            states,
-            picture,
-            other_picture,
-            rows,
-        ),
+        Word::Task(task) => one_file(task, line, in_batch, file, old, new, states, picture, rows),
         Word::Picture(form) => one_picture(
-            form,
-            line,
-            in_batch,
-            file,
-            old,
-            new,
-            states,
-            picture,
-            other_picture,
-            rows,
+            form, line, in_batch, file, old, new, states, picture, rows,
         ),
-        Word::Pictures => every_picture(
-            line,
-            in_batch,
-            file,
-            old,
-            new,
-            states,
-            picture,
-            other_picture,
-            rows,
-        ),
-        Word::Between => between(
-            line,
-            in_batch,
-            file,
-            old,
-            new,
-            states,
-            picture,
-            other_picture,
-            rows,
-        ),
-        Word::Film => film(
-            line,
-            in_batch,
-            file,
-            old,
-            new,
-            states,
-            picture,
-            other_picture,
-            rows,
-        ),
-        Word::Forecast => forecasts::run(
-            line,
-            before_target(line, in_batch),
-            target(line, in_batch),
-            in_batch,
-            file,
-        ),
+        Word::Pictures => into_folder(line, in_batch, file, old, new, states, picture, rows),
         Word::Compare => two_files(
             line,
             in_batch,

@@ -3,9 +3,9 @@
 #![tactic(auto)]
 
 mod comparing;
-mod forecasts;
 mod help;
 mod job;
+mod pictures;
 mod refusals;
 mod replay;
 mod task;

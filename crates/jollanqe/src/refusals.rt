@@ -24,22 +24,17 @@ pub(crate) fn tell(name: &[u8], file: &[u8], bytes: u64, refused: Refusal) {
     io::write_all(STDERR_FILENO, b"\n");
 }
 
-// One of several files is turned back: the number with its name, and the words.
-pub(crate) fn say(name: &[u8], file: &[u8], bytes: u64, refused: Refusal) {
-    let mut text = [0u8; crate::ROOM];
-    let n = differences::refused_line(&mut text, 0, refused.number(), name);
-    if !io::write_all(STDOUT_FILENO, front(&text, n)) {
-        os::fail(b"standard output");
-    }
-    tell(name, file, bytes, refused);
-}
-
 // Whether one of several files is turned back, which is then said with its name.
 pub(crate) fn turned_back(name: &[u8], file: &[u8], bytes: u64) -> bool {
     let refused = tested(Form::Lines, file);
     if refused.none() {
         return false;
     }
-    say(name, file, bytes, refused);
+    let mut text = [0u8; crate::ROOM];
+    let n = differences::refused_line(&mut text, 0, refused.number(), name);
+    if !io::write_all(STDOUT_FILENO, front(&text, n)) {
+        os::fail(b"standard output");
+    }
+    tell(name, file, bytes, refused);
     true
 }

@@ -1,11 +1,11 @@
 // A capture's events one by one: the refreshes that reset cuts, or every picture that is published.
 ghost use Rattle.std.specs.Prelude.{◌≤◌};
 
+use crate::pictures;
 use capture::{Capture, EVENT_BYTES};
 use controller::Uc8253;
 use cuts::Found;
 use events::{Event, event_at, step};
-use filming::{Ended, is_whole};
 use input::front;
 use uc8253::power_on;
 
@@ -15,11 +15,29 @@ pub(crate) enum Watch {
     Pictures,
 }
 
+// How far a replay got.
+#[derive(Drop)]
+pub(crate) enum Ended {
+    Whole,
+    // A write to the descriptor failed.
+    Unwritten,
+    // A picture's file failed, which was said.
+    Said,
+}
+
 // The record after an event, and whether the replay goes on.
 #[derive(Clone, Copy)]
 struct Met {
     chip: Uc8253,
     ended: Ended,
+}
+
+fn is_whole(ended: Ended) -> bool {
+    match ended {
+        Ended::Whole => true,
+        Ended::Unwritten => false,
+        Ended::Said => false,
+    }
 }
 
 // The line of a cut, if the event is one.
@@ -45,10 +63,10 @@ fn keep_picture(p: Uc8253, generation: u64, dir: &[u8], fd: i32, picture: &[u8])
     if image.generation == generation {
         return Ended::Whole;
     }
-    if !filming::keep(image, dir, picture) {
+    if !pictures::keep(image, dir, picture) {
         return Ended::Said;
     }
-    if filming::say(image, fd, picture) {
+    if pictures::say(image, fd, picture) {
         return Ended::Whole;
     }
     Ended::Unwritten

@@ -1,10 +1,9 @@
-// A task on one capture: its lines, its last picture, all its pictures, its cuts, its
-// configuration, or the glass between frames of the refresh that it ends in.
+// A task on one capture: its lines, its last picture, all its pictures, its cuts, or its
+// configuration.
 use crate::comparing::config_at;
-use crate::replay::Watch;
-use crate::{refusals, replay};
+use crate::replay::{Ended, Watch};
+use crate::{pictures, refusals, replay};
 use files::Got;
-use filming::{Ended, Frames};
 use input::front;
 use libc::STDOUT_FILENO;
 use shades::Tone;
@@ -16,7 +15,6 @@ pub(crate) enum Task {
     Watch(Watch),
     // The 312 bytes, as they stand.
     Config,
-    Frames(Frames),
 }
 
 // Whether the output could be written, or what failed was said already.
@@ -55,7 +53,6 @@ fn show_by(
 // A capture that is not turned back, to a descriptor; the answer is whether that could be written.
 fn write(
     task: Task,
-    name: &[u8],
     capture: &[u8],
     dir: &[u8],
     fd: i32,
@@ -63,7 +60,6 @@ fn write(
     new: &mut [u8],
     states: &mut [i64],
     picture: &mut [u8],
-    seen: &mut [u8],
     rows: &mut [u64],
 ) -> bool {
     match task {
@@ -72,29 +68,12 @@ fn write(
             watch, capture, dir, fd, old, new, states, picture, rows,
         )),
         Task::Config => write_config(capture, fd),
-        Task::Frames(wanted) => is_written(filming::run(
-            wanted, name, capture, dir, fd, old, new, states, picture, seen, rows,
-        )),
     }
 }
 
-// Makes the folder of a task, if it has one; that of a film is made with its first picture. What fails is said.
-fn folder_ready(task: Task, dir: &[u8]) -> bool {
-    match task {
-        Task::Frames(_) => true,
-        _ => {
-            if dir.len() == 0 {
-                return true;
-            }
-            filming::make(dir)
-        }
-    }
-}
-
-// Nothing is made before nothing turns the capture back.
+// Its folder, if it has one, and its output are made only here, once nothing turns the capture back.
 fn perform(
     task: Task,
-    name: &[u8],
     capture: &[u8],
     dir: &[u8],
     out: &[u8],
@@ -102,19 +81,18 @@ fn perform(
     new: &mut [u8],
     states: &mut [i64],
     picture: &mut [u8],
-    seen: &mut [u8],
     rows: &mut [u64],
 ) {
-    if !folder_ready(task, dir) {
-        return;
+    if dir.len() != 0 {
+        if !pictures::make(dir) {
+            return;
+        }
     }
     let fd = files::open(out);
     if fd < 0 {
         return;
     }
-    let written = write(
-        task, name, capture, dir, fd, old, new, states, picture, seen, rows,
-    );
+    let written = write(task, capture, dir, fd, old, new, states, picture, rows);
     files::close(out, fd, written);
 }
 
@@ -130,14 +108,11 @@ fn judge(
     new: &mut [u8],
     states: &mut [i64],
     picture: &mut [u8],
-    seen: &mut [u8],
     rows: &mut [u64],
 ) {
     let refused = tested(Form::Lines, capture);
     if refused.none() {
-        perform(
-            task, name, capture, dir, out, old, new, states, picture, seen, rows,
-        );
+        perform(task, capture, dir, out, old, new, states, picture, rows);
         return;
     }
     if !show(
@@ -166,7 +141,6 @@ pub(crate) fn run(
     new: &mut [u8],
     states: &mut [i64],
     picture: &mut [u8],
-    seen: &mut [u8],
     rows: &mut [u64],
 ) {
     let got = files::read(name, file);
@@ -183,7 +157,6 @@ pub(crate) fn run(
                 new,
                 states,
                 picture,
-                seen,
                 rows,
             );
         }

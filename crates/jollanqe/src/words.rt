@@ -56,15 +56,13 @@ pub(crate) fn word(line: &[u8], k: usize) -> &[u8] {
     &line[0..0]
 }
 
-// How many words there are; each has a byte at least.
+// How many words there are, and no more than eight.
 pub(crate) fn count(line: &[u8]) -> usize {
-    let mut from = begin(line, 0);
     let mut k: usize = 0;
-    while k < line.len() {
-        if line.len() <= from {
+    while k < 8 {
+        if word(line, k).len() == 0 {
             return k;
         }
-        from = begin(line, end(line, from));
         k += 1;
     }
     k
@@ -84,41 +82,6 @@ pub(crate) fn same(a: &[u8], b: &[u8]) -> bool {
         i += 1;
     }
     true
-}
-
-// A number as a word gives it.
-#[derive(Drop)]
-pub(crate) enum Number {
-    Is(u64),
-    // No number, or one past 2^64 - 1.
-    No,
-}
-
-// The most that can stand before another digit, and then the largest digit: 2^64 - 1 ends so.
-const MOST_TENS: u64 = 1_844_674_407_370_955_161;
-
-const LAST_DIGIT: u32 = 5;
-
-pub(crate) fn number_in(w: &[u8]) -> Number {
-    let mut value: u64 = 0;
-    let mut i: usize = 0;
-    while i < w.len() {
-        let d = digit(w[i]);
-        if 9 < d {
-            return Number::No;
-        }
-        if MOST_TENS < value {
-            return Number::No;
-        }
-        if value == MOST_TENS {
-            if LAST_DIGIT < d {
-                return Number::No;
-            }
-        }
-        value = value * 10 + d as u64;
-        i += 1;
-    }
-    Number::Is(value)
 }
 
 // A top as a word gives it.

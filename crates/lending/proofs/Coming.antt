@@ -50,7 +50,7 @@ denied : (b : Bool) → not b ≡ false → b ≡ true
 denied true e = refl
 denied false e = sym e
 
-pub swing_fits : (p : Uc8253) → foreign_record p ≡ false → p.config.optics.full_swing ≤ most
+swing_fits : (p : Uc8253) → foreign_record p ≡ false → p.config.optics.full_swing ≤ most
 unfolding foreign_record bad_config
 swing_fits p e =
     let z : refusal p.config ≡ 0 = eqb-true (refusal p.config) 0 (denied _ (neither (not (eqb (refusal p.config) 0)) _ e)) in

@@ -77,14 +77,6 @@ fn untouched(config: Uc8253Config, regs: Registers) -> Uc8253
     }
 }
 
-// The chip at power-on under a configuration.
-pub fn first_chip(config: Uc8253Config) -> Uc8253
-    ensures { result ≡ calls.first_chip config }
-{
-    let variant = config.variant;
-    untouched(config, Registers::reset(variant))
-}
-
 fn no_config() -> Uc8253Config
     ensures { result ≡ calls.no_config }
 {
@@ -196,7 +188,8 @@ pub fn power_on(
         fill_states(states, level(gray, optics.full_swing));
         fill_bytes(picture, gray);
         fill_words(rows);
-        let chip = first_chip(config);
+        let variant = config.variant;
+        let chip = untouched(config, Registers::reset(variant));
         return Answer { chip, refused };
     }
     let chip = zeros();

@@ -113,12 +113,6 @@ module _ {A B : Type 0} (f : B → A → A) where
   beside_past zero (b ∷ bs) (x ∷ l) d h = absurd (not-suc-le-zero h)
   beside_past (suc i) (b ∷ bs) (x ∷ l) d h = beside_past i bs l d (le_of_suc-le-suc h)
 
--- an entry that is there, whatever is named past the end
-pub get_d_inside : {A : Type 0} (l : List A) (i : ℕ) (d e : A) → i < length l → get_or l i d ≡ get_or l i e
-get_d_inside [] i d e h = absurd (not-suc-le-zero h)
-get_d_inside (x ∷ l) zero d e h = refl
-get_d_inside (x ∷ l) (suc i) d e h = get_d_inside l i d e (le_of_suc-le-suc h)
-
 -- ---- tested entry by entry
 -- a test that goes on only where the first passes
 both : (a b : Bool) → pick a b false ≡ true → (a ≡ true) × (b ≡ true)

@@ -1,14 +1,11 @@
 -- A transfer made ready moves a state as the transfer does: taking from what is held to raised ends is holding what was taken from.
 use mathlib.Core.Path.{◌≡◌, refl, sym, ap, ◌∙◌}
-use mathlib.Core.List.{List}
+use mathlib.Core.List.{List, [], ◌∷◌}
 use Prim.Native.Nat.{ℕ, zero, suc, ◌+◌, ◌-◌, ◌≤◌, ◌<◌, min, max}
 use native.Mathlib.Omega.{arith}
 use lib.Dec.{ltb}
 use lib.IntN.{ℤ, pos}
 use lib.ListN.{get_or}
-use mir.Syntax.{w64}
-use mir.Val.{SFits, to_z, of_z}
-use mir.Facts.{to_z-of_z}
 use Rattle.base.specs.Integer.{up}
 use Rattle.base.specs.Pick.{pick}
 use Rattle.glass.specs.declared.Transfer.{Transfer}
@@ -16,8 +13,7 @@ use Rattle.glass.proofs.TransferLaws.{act_is, held_move}
 use Rattle.pixels.specs.declared.Ready.{Ready}
 use Rattle.pixels.specs.States.{most}
 use Rattle.pixels.specs.Drive.{by_number, moved_once, moved_by}
-use Rattle.pixels.specs.InnerReady.{past, ready_of, readied, Bounded, moved_ready, slot_of}
-use Rattle.pixels.proofs.Machine.{up_fits}
+use Rattle.pixels.specs.InnerReady.{past, ready_of, Bounded, moved_ready, slot_of}
 use Rattle.pixels.proofs.DriveLaws.{number_both}
 
 -- ---- one transfer
@@ -48,6 +44,9 @@ abbrev pub unread : Ready
 unread = record { plus = 0; minus = 0; low = 0; high = 0 }
 
 -- ---- the four transfers, and the last again for a number with none
+abbrev pub readied : Transfer → Transfer → Transfer → Transfer → List Ready
+readied ww kw wk kk = ready_of ww ∷ ready_of kw ∷ ready_of wk ∷ ready_of kk ∷ ready_of kk ∷ []
+
 pub slot_table : (n : ℕ) → 0 < n → n ≤ 4 → slot_of n ≡ n - 1
 unfolding by_number
 slot_table zero h k = absurd (omega arith)
@@ -74,14 +73,3 @@ module _ (ww kw wk kk : Transfer) (ts : List Ready) (n k : ℕ) (five : ts ≡ r
       (number_both (λ (j : ℕ) (y : ℤ). pick (ltb j 4) (moved_ready (get_or (readied ww kw wk kk) j unread) z) z ≡ y) 0 1 2 3 4
       (moved_once ww z) (moved_once kw z) (moved_once wk z) (moved_once kk z) z n
       (ready_moves ww z h) (ready_moves kw z h) (ready_moves wk z h) (ready_moves kk z h) refl)
-
--- what a turn of a loop over the entries has: the state z of number n, moved by what stands in its slot, or left; each comes through a word
-pub entry_moved : (ww kw wk kk : Transfer) (ts : List Ready) (n k : ℕ) (z y r : ℤ) → ts ≡ readied ww kw wk kk → SFits w64 z → SFits w64 y → SFits w64 r
-    → k ≡ slot_of n → y ≡ moved_ready (get_or ts k unread) (to_z w64 (of_z w64 z)) → r ≡ pick (ltb k 4) (to_z w64 (of_z w64 y)) (to_z w64 (of_z w64 z))
-    → to_z w64 (of_z w64 r) ≡ moved_by ww kw wk kk n z
-entry_moved ww kw wk kk ts n k z y r five fz fy fr slot moved chosen =
-    to_z-of_z fr
-    ∙ chosen
-    ∙ ap (λ (v : ℤ). pick (ltb k 4) v (to_z w64 (of_z w64 z))) (to_z-of_z fy ∙ moved)
-    ∙ ap (λ (v : ℤ). pick (ltb k 4) (moved_ready (get_or ts k unread) v) v) (to_z-of_z fz)
-    ∙ slot_moves ww kw wk kk ts n k five slot z (omega (arith, up_fits fz))

@@ -1,5 +1,5 @@
 -- A transfer made ready once for all pixels: what moves a state with no test of signs.
-use Rattle.std.specs.Prelude.{List, [], ◌∷◌, ℕ, ◌+◌, ◌-◌, ◌≤◌, min, max, ℤ, pos}
+use Rattle.std.specs.Prelude.{ℕ, ◌+◌, ◌-◌, ◌≤◌, min, max, ℤ, pos}
 use Rattle.base.specs.Integer.{up}
 use Rattle.glass.specs.declared.Transfer.{Transfer}
 use Rattle.pixels.specs.declared.Ready.{Ready}
@@ -18,10 +18,6 @@ ready_of t = record {
   low = min t.lo most + min (t.down - t.up) past;
   high = min t.hi most + min (t.down - t.up) past;
 }
-
--- the four transfers made ready, and the last again for a number with none
-abbrev pub readied : Transfer → Transfer → Transfer → Transfer → List Ready
-readied ww kw wk kk = ready_of ww ∷ ready_of kw ∷ ready_of wk ∷ ready_of kk ∷ ready_of kk ∷ []
 
 -- an entry moved by it; what lies below 0 counts as 0
 unfoldable pub moved_ready : Ready → ℤ → ℤ

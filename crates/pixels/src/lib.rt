@@ -2,13 +2,13 @@
 // pixel.
 #![tactic(auto)]
 
-ghost use Rattle.std.specs.Prelude.{◌≡◌, true, ◌*◌, ◌≤◌, min, ltb, length, get_or, replicate};
+ghost use Rattle.std.specs.Prelude.{◌≡◌, true, ◌*◌, ◌≤◌, min, ltb, length, replicate};
 ghost use Rattle.base.specs.Integer.{up};
 ghost use Rattle.base.specs.Pick.{pick};
 ghost use Rattle.glass.specs.Gray.{top_of, gray_at, gray_of};
 ghost use Rattle.pixels.specs.States.{most, state_held, is_state, every_state};
 ghost use Rattle.pixels.specs.Drive.{driven};
-ghost use Rattle.pixels.specs.InnerReady.{ready_of, readied, Bounded, moved_ready, slot_of};
+ghost use Rattle.pixels.specs.InnerReady.{ready_of, Bounded, moved_ready, slot_of};
 ghost use Rattle.pixels.specs.Draw.{drawn_at, drawn};
 ghost use Rattle.pixels.specs.InnerGuess.{threshold_of, Thresholds, white, Scaled, Prepared};
 
@@ -128,19 +128,6 @@ impl Ready {
     }
 }
 
-// The four transfers made ready, and the last again for a number with none.
-fn all_ready(ww: Transfer, kw: Transfer, wk: Transfer, kk: Transfer) -> [Ready; 5]
-    ensures { result ≡ readied ww kw wk kk }
-{
-    [
-        Ready::new(ww),
-        Ready::new(kw),
-        Ready::new(wk),
-        Ready::new(kk),
-        Ready::new(kk),
-    ]
-}
-
 // Where a table number's transfer stands among the four; past them where it has none.
 fn slot(number: u8) -> usize
     ensures { result ≡ slot_of number }
@@ -174,7 +161,13 @@ pub fn drive(
     ensures { states.new ≡ driven ww kw wk kk numbers.now states.old }
 {
     let n = shorter(states.len(), numbers.len());
-    let ts = all_ready(ww, kw, wk, kk);
+    let ts = [
+        Ready::new(ww),
+        Ready::new(kw),
+        Ready::new(wk),
+        Ready::new(kk),
+        Ready::new(kk),
+    ];
     let mut i: usize = 0;
     while i < n {
         let z = states[i];
@@ -278,47 +271,6 @@ pub fn draw(picture: &mut [u8], states: &[i64], swing: u64)
     while i < n {
         let z = states[i];
         let x = above(z);
-        picture[i] = shade(x, swing, scale, &from);
-        i += 1;
-    }
-}
-
-// Where the transfer of entry i's number stands; past the four for a missing number.
-fn slot_at(numbers: &[u8], i: usize) -> usize
-    ensures { result ≡ slot_of (get_or numbers.now i 255) }
-{
-    if i < numbers.len() {
-        return slot(numbers[i]);
-    }
-    NO_SLOT
-}
-
-// The picture of the states as the transfers of their numbers would move them, while every state stays
-// (2026-11); entries past the shorter of picture and states stay.
-pub fn draw_driven(
-    picture: &mut [u8],
-    states: &[i64],
-    numbers: &[u8],
-    ww: Transfer,
-    kw: Transfer,
-    wk: Transfer,
-    kk: Transfer,
-    swing: u64,
-)
-    ensures { picture.new
-        ≡ drawn swing (driven ww kw wk kk numbers.now states.now) picture.old }
-{
-    let n = shorter(picture.len(), states.len());
-    let from = thresholds(swing);
-    let scale = Scale::new(swing, WHITE);
-    let ts = all_ready(ww, kw, wk, kk);
-    let mut i: usize = 0;
-    while i < n {
-        let z = states[i];
-        let k = slot_at(numbers, i);
-        let t = ts[k];
-        let y = if_driven(k, t.apply(z), z);
-        let x = above(y);
         picture[i] = shade(x, swing, scale, &from);
         i += 1;
     }

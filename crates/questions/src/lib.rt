@@ -100,8 +100,7 @@ pub fn busy_pin(p: Uc8253, at: u64) -> Busy
     }
 }
 
-// When what runs ends.
-pub fn due_of(work: Work, until: u64) -> Due
+fn due_of(work: Work, until: u64) -> Due
     ensures { result ≡ calls.due_of work until }
 {
     match work {

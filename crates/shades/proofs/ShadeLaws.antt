@@ -16,7 +16,7 @@ use Rattle.pixels.specs.Draw.{drawn_at}
 use Rattle.controller.specs.declared.Uc8253.{Uc8253}
 use Rattle.controller.specs.World.{World, Buffers, buffers, world}
 use Rattle.controller.specs.Setters.{with_states}
-use Rattle.controller.specs.Ask.{Answer, nothing, byte, count, low, due, bit, part, wide, seen, ask_picture, refused_by, answered}
+use Rattle.controller.specs.Ask.{Answer, nothing, byte, count, low, due, bit, part, wide, ask_picture, refused_by, answered}
 use Rattle.controller.specs.Sound.{Sound}
 use Rattle.controller.specs.Calls.{wide_refused, wide_answer}
 use Rattle.controller.proofs.Wide.{wide_taken, wide_is}
@@ -62,7 +62,6 @@ entries (due d) = []
 entries (bit f) = []
 entries (part l) = []
 entries (wide l) = l
-entries (seen l) = []
 
 abbrev pub none : Buffers
 none = buffers [] [] [] [] []

@@ -53,14 +53,14 @@ use Rattle.streams.specs.declared.Flowed.{Flowed}
 use Rattle.event.specs.Events.{events_in, event_at, event_done, event_refused, event_answer}
 use Rattle.event.proofs.EventLaws.{Does, does_data}
 use Rattle.streams.specs.InnerStretch.{ran_on, Stretch, on_from, cursor_to, count_to, clock_to, plane_to, flows_by, AllFlow}
-use Rattle.streams.specs.InnerStretch.{Passes, Flows, flowed_chip, flowed_by, PassesInto, FlowsInto, rests_by, calm_with, endless_by, pixels_by, Aimed}
+use Rattle.streams.specs.InnerStretch.{Flows, flowed_chip, FlowsInto, rests_by, calm_with, endless_by, pixels_by, Aimed}
 
 -- ---- tests that fail
 neither : (x y : Bool) → (x || y) ≡ false → (x ≡ false) × (y ≡ false)
 neither true y e = absurd (true≢false e)
 neither false y e = (refl, e)
 
-pub each : (x y : Bool) → (x && y) ≡ true → (x ≡ true) × (y ≡ true)
+each : (x y : Bool) → (x && y) ≡ true → (x ≡ true) × (y ≡ true)
 each true y e = (refl, e)
 each false y e = absurd (false≢true e)
 
@@ -116,28 +116,39 @@ abbrev with_plane : Bool → List ℕ → Buffers → Buffers
 with_plane true l b = with_old l b
 with_plane false l b = with_new l b
 
-abbrev pub command_for : Bool → ℕ
+abbrev command_for : Bool → ℕ
 command_for true = 0x10
 command_for false = 0x13
 
--- nothing runs, and the command under way takes pixel bytes
-pub record Pixels (older : Bool) (p : Uc8253) (a : Active) : Type 0 where
-  pub resting : p.operation.work ≡ work.Nothing
-  pub active : p.stage.current ≡ current.Active a
-  pub endless : a.kind ≡ kind.Write params.Stream
-  pub command : a.command ≡ command_for older
-
--- on a record that is not foreign, and what is lent fits
+-- nothing runs on a record that is not foreign, what is lent fits, and the command under way takes pixel bytes
 record Streams (older : Bool) (p : Uc8253) (b : Buffers) (a : Active) : Type 0 where
-  pixels : Pixels older p a
+  resting : p.operation.work ≡ work.Nothing
+  active : p.stage.current ≡ current.Active a
+  endless : a.kind ≡ kind.Write params.Stream
+  command : a.command ≡ command_for older
   home : Parts p
   fits : lent_fits p.config b ≡ true
 
 abbrev flowed : Bool → Uc8253 → Buffers → Active → Cursor → ℕ → ℕ → List ℕ → World
 flowed older p b a c n t l = world (flowed_chip p a c n t) (with_plane older l b)
 
--- ---- a data byte at a time
-module _ (p : Uc8253) (a : Active) where
+module _ (p : Uc8253) (b : Buffers) (a : Active) where
+  flowed_first : (older : Bool) → Streams older p b a → world p b ≡ flowed older p b a a.cursor a.received p.now (plane_of older b)
+  flowed_first true s = ap (λ (x : Current). world (with_current x p) b) s.active
+  flowed_first false s = ap (λ (x : Current). world (with_current x p) b) s.active
+
+  -- no data byte is turned back
+  fits_still : (older : Bool) (l : List ℕ) → length l ≡ length (plane_of older b) → lent_fits p.config b ≡ true
+      → lent_fits p.config (with_plane older l b) ≡ true
+  fits_still true l e f = rw e f
+  fits_still false l e f = rw e f
+
+  taken_at : (older : Bool) → Streams older p b a → (c : Cursor) (n t u : ℕ) (l : List ℕ) → Stands c → length l ≡ length (plane_of older b)
+      → turned_back false u (flowed older p b a c n t l) ≡ 0
+  unfolding turned_back foreign_record ends_refresh
+  taken_at older s c n t u l d e =
+      rw (s.home.config, s.home.regs, good_cursor (record { command = a.command; kind = a.kind; received = n; read = a.read; cursor = c; extra_reported = a.extra_reported; past_reported = a.past_reported }) d, s.home.runs, s.home.stored, fits_still older l e s.fits, s.resting)
+
   -- the command under way, so far along
   abbrev along : Cursor → ℕ → Active
   along c n = record { command = a.command; kind = a.kind; received = n; read = a.read; cursor = c; extra_reported = a.extra_reported; past_reported = a.past_reported }
@@ -146,7 +157,7 @@ module _ (p : Uc8253) (a : Active) where
   use_for true = use-for.Older
   use_for false = use-for.Newer
 
-  used_for : (older : Bool) → Pixels older p a → (c : Cursor) (n v : ℕ) → purpose_of (along c n) v ≡ use_for older
+  used_for : (older : Bool) → Streams older p b a → (c : Cursor) (n v : ℕ) → purpose_of (along c n) v ≡ use_for older
   unfolding purpose_of doing
   used_for true s c n v = rw (s.endless, s.command)
   used_for false s c n v = rw (s.endless, s.command)
@@ -155,7 +166,7 @@ module _ (p : Uc8253) (a : Active) where
   area = written_of p.regs
 
   -- the byte is put, or passed over silently where that was reported
-  abbrev pub Fine : Cursor → Type 0
+  abbrev Fine : Cursor → Type 0
   Fine c = pick (past_row area c) a.past_reported true ≡ true
 
   pixel_at : (c : Cursor) (n t : ℕ) → Fine c
@@ -167,11 +178,8 @@ module _ (p : Uc8253) (a : Active) where
   unfolding past_note
   quiet_at c n t f = by_cases (past_row area c) (λ h. rw (h, rw h at f)) (λ h. rw h)
 
-  pub chip_first : (older : Bool) → Pixels older p a → p ≡ flowed_chip p a a.cursor a.received p.now
-  chip_first older s = ap (λ (x : Current). with_current x p) s.active
-
-  -- the record, what it tells, the glass
-  module _ (older : Bool) (s : Pixels older p a) (c : Cursor) (n t u v : ℕ) where
+  -- ---- a data byte at a time: the record, what it tells, the planes, the glass
+  module _ (older : Bool) (s : Streams older p b a) (c : Cursor) (n t u v : ℕ) (f : Fine c) where
     abbrev here : Uc8253
     here = flowed_chip p a c n t
 
@@ -189,32 +197,31 @@ module _ (p : Uc8253) (a : Active) where
     copied_at old new =
         both (λ (x : List ℕ). x ≡ old) (leb p.operation.until (max t u)) (ap (λ (x : Work). copied_by x here old new) s.resting) refl
 
-    pub driven_at_lem : driven_at own false u here ≡ drive.Nothing
+    driven_at_lem : driven_at own false u here ≡ drive.Nothing
     unfolding driven_at ends_refresh
     driven_at_lem = rw s.resting
 
-    module _ (f : Fine c) where
-      used_by_lem : (older : Bool) → used_by own (use_for older) (along c n) v there ≡ flowed_chip p a (on_from area c) (counted_of n) (max t u)
-      used_by_lem true = pixel_at c n (max t u) f
-      used_by_lem false = pixel_at c n (max t u) f
+    used_by_lem : (older : Bool) → used_by own (use_for older) (along c n) v there ≡ flowed_chip p a (on_from area c) (counted_of n) (max t u)
+    used_by_lem true = pixel_at c n (max t u) f
+    used_by_lem false = pixel_at c n (max t u) f
 
-      byte_at : data_byte own v there ≡ flowed_chip p a (on_from area c) (counted_of n) (max t u)
-      unfolding data_byte
-      byte_at = ap (λ (x : Use). used_by own x (along c n) v there) (used_for older s c n v) ∙ used_by_lem older
+    byte_at : data_byte own v there ≡ flowed_chip p a (on_from area c) (counted_of n) (max t u)
+    unfolding data_byte
+    byte_at = ap (λ (x : Use). used_by own x (along c n) v there) (used_for older s c n v) ∙ used_by_lem older
 
-      told_by_lem : (older : Bool) → used_note (use_for older) (along c n) v there ≡ Quiet
-      told_by_lem true = quiet_at c n (max t u) f
-      told_by_lem false = quiet_at c n (max t u) f
+    told_by_lem : (older : Bool) → used_note (use_for older) (along c n) v there ≡ Quiet
+    told_by_lem true = quiet_at c n (max t u) f
+    told_by_lem false = quiet_at c n (max t u) f
 
-      note_at : data_note v (arrived u here) ≡ Quiet
-      unfolding data_note
-      note_at = ap (data_note v) arrived_at ∙ ap (λ (x : Use). used_note x (along c n) v there) (used_for older s c n v) ∙ told_by_lem older
+    note_at : data_note v (arrived u here) ≡ Quiet
+    unfolding data_note
+    note_at = ap (data_note v) arrived_at ∙ ap (λ (x : Use). used_note x (along c n) v there) (used_for older s c n v) ∙ told_by_lem older
 
-      pub record_at : record_after own (datum u v) here ≡ flowed_chip p a (on_from area c) (counted_of n) (max t u)
-      unfolding record_after
-      record_at =
-          let done = ap (data_byte own v) arrived_at ∙ byte_at in
-          λ i. with_log (log_told (notes (note_at i) Quiet) (done i).log) (done i)
+    record_at : record_after own (datum u v) here ≡ flowed_chip p a (on_from area c) (counted_of n) (max t u)
+    unfolding record_after
+    record_at =
+        let done = ap (data_byte own v) arrived_at ∙ byte_at in
+        λ i. with_log (log_told (notes (note_at i) Quiet) (done i).log) (done i)
 
     plane_at : (mine : Use → Bool) (l : List ℕ) → plane_byte mine v (arrived u here) l ≡ pick (mine (use_for older)) (put_at area c v l) l
     unfolding plane_byte
@@ -222,38 +229,20 @@ module _ (p : Uc8253) (a : Active) where
         ap (λ (x : Uc8253). plane_byte mine v x l) arrived_at
         ∙ ap (λ (x : Use). pick (mine x) (put_at area c v l) l) (used_for older s c n v)
 
-    lent_at : Fine c → (l : Buffers) → lent_after own (datum u v) here l
+    lent_at : (l : Buffers) → lent_after own (datum u v) here l
         ≡ buffers (pick (for_old (use_for older)) (put_at area c v l.old) l.old)
         (pick (for_new (use_for older)) (put_at area c v l.new) l.new) l.states l.picture l.rows
     unfolding lent_after old_after new_after rows_after
-    lent_at f l =
+    lent_at l =
         let old = ap (plane_byte for_old v (arrived u here)) (copied_at l.old l.new) ∙ plane_at for_old l.old in
         λ i. buffers (old i) (plane_at for_new l.new i) (states_by (driven_at_lem i) here l.old l.new l.states)
         (picture_by (driven_at_lem i) here (states_by (driven_at_lem i) here l.old l.new l.states) l.picture)
-        (rows_told (notes (note_at f i) Quiet) (max t u) p.log l.rows)
+        (rows_told (notes (note_at i) Quiet) (max t u) p.log l.rows)
 
--- ---- what is lent with it
-module _ (p : Uc8253) (b : Buffers) (a : Active) where
-  flowed_first : (older : Bool) → Streams older p b a → world p b ≡ flowed older p b a a.cursor a.received p.now (plane_of older b)
-  flowed_first true s = ap (λ (x : Current). world (with_current x p) b) s.pixels.active
-  flowed_first false s = ap (λ (x : Current). world (with_current x p) b) s.pixels.active
-
-  -- no data byte is turned back
-  fits_still : (older : Bool) (l : List ℕ) → length l ≡ length (plane_of older b) → lent_fits p.config b ≡ true
-      → lent_fits p.config (with_plane older l b) ≡ true
-  fits_still true l e f = rw e f
-  fits_still false l e f = rw e f
-
-  taken_at : (older : Bool) → Streams older p b a → (c : Cursor) (n t u : ℕ) (l : List ℕ) → Stands c → length l ≡ length (plane_of older b)
-      → turned_back false u (flowed older p b a c n t l) ≡ 0
-  unfolding turned_back foreign_record ends_refresh
-  taken_at older s c n t u l d e =
-      rw (s.home.config, s.home.regs, good_cursor (along p a c n) d, s.home.runs, s.home.stored, fits_still older l e s.fits, s.pixels.resting)
-
-  done_at : (older : Bool) → Streams older p b a → (c : Cursor) (n t u v : ℕ) (l : List ℕ) → Fine p a c
-      → lent_after own (datum u v) (flowed_chip p a c n t) (with_plane older l b) ≡ with_plane older (put_at (written_of p.regs) c v l) b
-  done_at true s c n t u v l f = lent_at p a true s.pixels c n t u v f (with_plane true l b)
-  done_at false s c n t u v l f = lent_at p a false s.pixels c n t u v f (with_plane false l b)
+  done_at : (older : Bool) → Streams older p b a → (c : Cursor) (n t u v : ℕ) (l : List ℕ) → Fine c
+      → lent_after own (datum u v) (flowed_chip p a c n t) (with_plane older l b) ≡ with_plane older (put_at area c v l) b
+  done_at true s c n t u v l f = lent_at true s c n t u v f (with_plane true l b)
+  done_at false s c n t u v l f = lent_at false s c n t u v f (with_plane false l b)
 
   -- an event of the run
   data_at : (older : Bool) → Streams older p b a → (e : Event) (c : Cursor) (n t : ℕ) (l : List ℕ) → Stands c
@@ -264,16 +253,16 @@ module _ (p : Uc8253) (b : Buffers) (a : Active) where
 
   one_more : (older : Bool) → Streams older p b a → (e : Event) (c : Cursor) (n t : ℕ) (l : List ℕ) → Stands c
       → length l ≡ length (plane_of older b)
-      → flows_by e.kind (written_of p.regs) c a.past_reported ≡ true
+      → flows_by e.kind area c a.past_reported ≡ true
       → event_done e (flowed older p b a c n t l)
-      ≡ flowed older p b a (on_from (written_of p.regs) c) (counted_of n) (max t e.time) (put_at (written_of p.regs) c e.value l)
+      ≡ flowed older p b a (on_from area c) (counted_of n) (max t e.time) (put_at area c e.value l)
   unfolding flows_by
   one_more older s e c n t l d q f =
       let g = each (eqb e.kind 2) _ f in
       let h = taken_at older s c n t e.time l d q in
       sym (data_at older s e c n t l d q (eqb-true e.kind 2 g.0)).done
       ∙ did_yes (datum e.time e.value) (flowed older p b a c n t l) (eq-eqb (turned_back false e.time (flowed older p b a c n t l)) 0 h)
-      ∙ (λ i. world (record_at p a older s.pixels c n t e.time e.value g.1 i) (done_at older s c n t e.time e.value l g.1 i))
+      ∙ (λ i. world (record_at older s c n t e.time e.value g.1 i) (done_at older s c n t e.time e.value l g.1 i))
 
 -- ---- where the cursor stands, and how long the plane is
 on_stands : (r : Area) (c : Cursor) → InRam r → Stands c → Stands (on_from r c)
@@ -298,7 +287,7 @@ module _ (older : Bool) (p : Uc8253) (b : Buffers) (a : Active) (s : Streams old
   in_ram = written_in_range p.regs (registers_held p.regs s.home.regs)
 
   first_stands : Stands a.cursor
-  first_stands = stands a (subst (λ (x : Current). bad_current x ≡ false) s.pixels.active s.home.stage)
+  first_stands = stands a (subst (λ (x : Current). bad_current x ≡ false) s.active s.home.stage)
 
   -- after k bytes
   abbrev reached : ℕ → World
@@ -355,23 +344,20 @@ pixels_are kind.Read e = absurd (false≢true e)
 pixels_are (kind.Unsupported n) e = absurd (false≢true e)
 pixels_are kind.Unknown e = absurd (false≢true e)
 
-pub pixels : (older : Bool) (p : Uc8253) (a : Active) → rests_by p.operation.work ≡ true → Aimed p.stage.current a (command_for older)
-    → Pixels older p a
-pixels older p a e m =
-    record {
-      resting = rest_is p.operation.work e;
-      active = m.active;
-      endless = pixels_are a.kind m.pixels;
-      command = m.is;
-    }
-
 streams : (older : Bool) (p : Uc8253) (b : Buffers) (a : Active) → calm_with p (lent_fits p.config b) ≡ true
     → Aimed p.stage.current a (command_for older) → Streams older p b a
 unfolding calm_with
 streams older p b a e m =
     let g = each (rests_by p.operation.work) _ e in
     let h = each (lent_fits p.config b) _ g.1 in
-    record { pixels = pixels older p a g.0 m; home = parts p (denied (foreign_record p) h.1); fits = h.0 }
+    record {
+      resting = rest_is p.operation.work g.0;
+      active = m.active;
+      endless = pixels_are a.kind m.pixels;
+      command = m.is;
+      home = parts p (denied (foreign_record p) h.1);
+      fits = h.0;
+    }
 
 -- no events
 pub stretch_none : (bytes : List ℕ) (i : ℕ) (w : World) → Stretch bytes i 0 w w
@@ -382,13 +368,13 @@ pub stretch_older : (bytes : List ℕ) (i : ℕ) (p : Uc8253) (b : Buffers) (a :
     → calm_with p (lent_fits p.config b) ≡ true → Aimed p.stage.current a 0x10 → FlowsInto bytes i p a b.old m f
     → Stretch bytes i f.done (world p b) (world f.chip (with_old m b))
 stretch_older bytes i p b a m f e q r =
-    stretch true p b a (streams true p b a e q) bytes i f.done _ r.passes.within r.passes.all (λ j. world (r.passes.chip j) (with_old (r.plane j) b))
+    stretch true p b a (streams true p b a e q) bytes i f.done _ r.within r.all (λ j. world (r.chip j) (with_old (r.plane j) b))
 
 pub stretch_newer : (bytes : List ℕ) (i : ℕ) (p : Uc8253) (b : Buffers) (a : Active) (m : List ℕ) (f : Flowed)
     → calm_with p (lent_fits p.config b) ≡ true → Aimed p.stage.current a 0x13 → FlowsInto bytes i p a b.new m f
     → Stretch bytes i f.done (world p b) (world f.chip (with_new m b))
 stretch_newer bytes i p b a m f e q r =
-    stretch false p b a (streams false p b a e q) bytes i f.done _ r.passes.within r.passes.all (λ j. world (r.passes.chip j) (with_new (r.plane j) b))
+    stretch false p b a (streams false p b a e q) bytes i f.done _ r.within r.all (λ j. world (r.chip j) (with_new (r.plane j) b))
 
 -- ---- the loop over the bytes of a run
 more_flow : (bytes : List ℕ) (i k : ℕ) (r : Area) (c : Cursor) (reported : Bool) → AllFlow bytes i k r c reported
@@ -401,17 +387,18 @@ more_flow bytes i k r c reported all last j h = elim (dec_le k j) [
     same_place : (k j : ℕ) → k ≤ j → j < suc k → k ≡ j
     same_place k j g h = omega arith
 
-module _ {bytes : List ℕ} {i : ℕ} {r : Area} {reported : Bool} {c : Cursor} {n t : ℕ} where
-  pub pass_first : i ≤ events_in bytes → (k : ℕ) → k ≡ 0 → Passes bytes i r reported c n t (record { cursor = c; received = n; now = t; done = k })
-  pass_first h k z =
-      rw z (record { within = omega arith; all = λ j m. absurd (omega arith); stands = refl; count = refl; clock = refl })
+module _ {bytes : List ℕ} {i : ℕ} {r : Area} {reported : Bool} {c : Cursor} {n t : ℕ} {l : List ℕ} where
+  pub flow_first : i ≤ events_in bytes → (k : ℕ) → k ≡ 0
+      → Flows bytes i r reported c n t l l (record { cursor = c; received = n; now = t; done = k })
+  flow_first h k z =
+      rw z (record { within = omega arith; all = λ j m. absurd (omega arith); stands = refl; count = refl; clock = refl; plane = refl })
 
-  pub pass_more : {d d' : Cursor} {o o' u u' k : ℕ} {e : Event}
-      → Passes bytes i r reported c n t (record { cursor = d; received = o; now = u; done = k })
+  pub flow_more : {m m' : List ℕ} {d d' : Cursor} {o o' u u' k : ℕ} {e : Event}
+      → Flows bytes i r reported c n t l m (record { cursor = d; received = o; now = u; done = k })
       → e ≡ event_at bytes (i + k) → flows_by e.kind r d reported ≡ true → i + k < events_in bytes
-      → d' ≡ on_from r d → o' ≡ counted_of o → u' ≡ max u e.time → (k' : ℕ) → k' ≡ suc k
-      → Passes bytes i r reported c n t (record { cursor = d'; received = o'; now = u'; done = k' })
-  pass_more {k = k} {e = e} f q w h hd ho hu k' z =
+      → m' ≡ put_at r d e.value m → d' ≡ on_from r d → o' ≡ counted_of o → u' ≡ max u e.time → (k' : ℕ) → k' ≡ suc k
+      → Flows bytes i r reported c n t l m' (record { cursor = d'; received = o'; now = u'; done = k' })
+  flow_more {k = k} {e = e} f q w h hm hd ho hu k' z =
       rw z
       (record {
         within = omega arith;
@@ -419,41 +406,16 @@ module _ {bytes : List ℕ} {i : ℕ} {r : Area} {reported : Bool} {c : Cursor} 
         stands = hd ∙ ap (on_from r) f.stands;
         count = ho ∙ ap counted_of f.count;
         clock = hu ∙ (λ j. max (f.clock j) (q j).time);
+        plane = hm ∙ (λ j. put_at r (f.stands j) (q j).value (f.plane j));
       })
-
--- and with the plane
-module _ {bytes : List ℕ} {i : ℕ} {r : Area} {reported : Bool} {c : Cursor} {n t : ℕ} {l : List ℕ} where
-  pub flow_first : i ≤ events_in bytes → (k : ℕ) → k ≡ 0
-      → Flows bytes i r reported c n t l l (record { cursor = c; received = n; now = t; done = k })
-  flow_first h k z = record { passes = pass_first h k z; plane = rw z }
-
-  pub flow_more : {m m' : List ℕ} {d d' : Cursor} {o o' u u' k : ℕ} {e : Event}
-      → Flows bytes i r reported c n t l m (record { cursor = d; received = o; now = u; done = k })
-      → e ≡ event_at bytes (i + k) → flows_by e.kind r d reported ≡ true → i + k < events_in bytes
-      → m' ≡ put_at r d e.value m → d' ≡ on_from r d → o' ≡ counted_of o → u' ≡ max u e.time → (k' : ℕ) → k' ≡ suc k
-      → Flows bytes i r reported c n t l m' (record { cursor = d'; received = o'; now = u'; done = k' })
-  flow_more f q w h hm hd ho hu k' z =
-      record {
-        passes = pass_more f.passes q w h hd ho hu k' z;
-        plane = hm ∙ (λ j. put_at r (f.passes.stands j) (q j).value (f.plane j)) ∙ rw z;
-      }
 
   pub flow_length : {m : List ℕ} {f : Change} → Flows bytes i r reported c n t l m f → length m ≡ length l
   flow_length {f = f} x = ap (λ (y : List ℕ). length y) x.plane ∙ plane_length bytes i f.done r c l
 
 -- the record takes over what a run of bytes changed
-pub passes_into : (bytes : List ℕ) (i : ℕ) (p : Uc8253) (a : Active) (r : Area) (f : Change) (q : Flowed) → r ≡ written_of p.regs
-    → Passes bytes i r a.past_reported a.cursor a.received p.now f → q ≡ flowed_by p a f → PassesInto bytes i p a q
-passes_into bytes i p a r f q e h t =
-    let g = subst (λ (x : Area). Passes bytes i x a.past_reported a.cursor a.received p.now f) e h in
-    subst (PassesInto bytes i p a) (sym t)
-    (record { within = g.within; all = g.all; chip = λ j. flowed_chip p a (g.stands j) (g.count j) (g.clock j) })
-
-pub flows_into : (bytes : List ℕ) (i : ℕ) (p : Uc8253) (a : Active) (l m : List ℕ) (r : Area) (f : Change) (q : Flowed)
-    → r ≡ written_of p.regs → Flows bytes i r a.past_reported a.cursor a.received p.now l m f → q ≡ flowed_by p a f
-    → FlowsInto bytes i p a l m q
-flows_into bytes i p a l m r f q e h t =
-    record {
-      passes = passes_into bytes i p a r f q e h.passes t;
-      plane = h.plane ∙ (λ j. plane_to bytes i (sym t j).done (e j) a.cursor l);
-    }
+pub into_of : (bytes : List ℕ) (i : ℕ) (p : Uc8253) (a : Active) (l m : List ℕ) (r : Area) (f : Change) → r ≡ written_of p.regs
+    → Flows bytes i r a.past_reported a.cursor a.received p.now l m f
+    → FlowsInto bytes i p a l m (record { chip = flowed_chip p a f.cursor f.received f.now; done = f.done })
+into_of bytes i p a l m r f e h =
+    let g = subst (λ (x : Area). Flows bytes i x a.past_reported a.cursor a.received p.now l m f) e h in
+    record { within = g.within; all = g.all; chip = λ j. flowed_chip p a (g.stands j) (g.count j) (g.clock j); plane = g.plane }

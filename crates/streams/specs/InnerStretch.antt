@@ -72,17 +72,13 @@ flows_by k a c reported = eqb k 2 && pick (past_row a c) reported true
 abbrev pub AllFlow : List ℕ → ℕ → ℕ → Area → Cursor → Bool → Type 0
 AllFlow bytes i k a c reported = (j : ℕ) → j < k → flows_by (event_at bytes (i + j)).kind a (cursor_to a j c) reported ≡ true
 
--- what a run of pixel bytes from event i on hands back: where the cursor stands, the count and the clock
-pub record Passes (bytes : List ℕ) (i : ℕ) (a : Area) (reported : Bool) (c : Cursor) (n t : ℕ) (f : Change) : Type 0 where
+-- what a run of pixel bytes from event i on hands back
+pub record Flows (bytes : List ℕ) (i : ℕ) (a : Area) (reported : Bool) (c : Cursor) (n t : ℕ) (l m : List ℕ) (f : Change) : Type 0 where
   pub within : i + f.done ≤ events_in bytes
   pub all : AllFlow bytes i f.done a c reported
   pub stands : f.cursor ≡ cursor_to a f.done c
   pub count : f.received ≡ count_to f.done n
   pub clock : f.now ≡ clock_to bytes i f.done t
-
--- and its plane
-pub record Flows (bytes : List ℕ) (i : ℕ) (a : Area) (reported : Bool) (c : Cursor) (n t : ℕ) (l m : List ℕ) (f : Change) : Type 0 where
-  pub passes : Passes bytes i a reported c n t f
   pub plane : m ≡ plane_to bytes i f.done a c l
 
 -- the record after it
@@ -99,18 +95,12 @@ flowed_chip p a c n t =
       past_reported = a.past_reported;
     })) p)
 
-abbrev pub flowed_by : Uc8253 → Active → Change → Flowed
-flowed_by p a f = record { chip = flowed_chip p a f.cursor f.received f.now; done = f.done }
-
-pub record PassesInto (bytes : List ℕ) (i : ℕ) (p : Uc8253) (a : Active) (f : Flowed) : Type 0 where
+pub record FlowsInto (bytes : List ℕ) (i : ℕ) (p : Uc8253) (a : Active) (l m : List ℕ) (f : Flowed) : Type 0 where
   pub within : i + f.done ≤ events_in bytes
   pub all : AllFlow bytes i f.done (written_of p.regs) a.cursor a.past_reported
   pub chip :
       f.chip ≡ flowed_chip p a
       (cursor_to (written_of p.regs) f.done a.cursor) (count_to f.done a.received) (clock_to bytes i f.done p.now)
-
-pub record FlowsInto (bytes : List ℕ) (i : ℕ) (p : Uc8253) (a : Active) (l m : List ℕ) (f : Flowed) : Type 0 where
-  pub passes : PassesInto bytes i p a f
   pub plane : m ≡ plane_to bytes i f.done (written_of p.regs) a.cursor l
 
 -- nothing runs

@@ -20,11 +20,11 @@ use rules::{counted, foreign, lengths_fit};
 
 // What a run of pixel bytes changes beside its plane, and how many there were.
 #[derive(Clone, Copy)]
-pub struct Change {
-    pub cursor: Cursor,
-    pub received: u16,
-    pub now: u64,
-    pub done: usize,
+struct Change {
+    cursor: Cursor,
+    received: u16,
+    now: u64,
+    done: usize,
 }
 
 // The record after some events, and how many there were.
@@ -36,14 +36,14 @@ pub struct Flowed {
 
 // Where the data bytes that follow go, if they are pixels.
 #[derive(Clone, Copy)]
-pub enum Target {
+enum Target {
     Nowhere,
     Older(Active),
     Newer(Active),
 }
 
 // Whether an event goes on with the run: a data byte, and none that has to be reported.
-pub fn flows(kind: u8, area: Area, at: Cursor, reported: bool) -> bool
+fn flows(kind: u8, area: Area, at: Cursor, reported: bool) -> bool
     ensures { result ≡ rule.flows_by kind area at reported }
 {
     if kind != DATA {
@@ -66,7 +66,7 @@ fn put(plane: &mut [u8], area: Area, at: Cursor, byte: u8)
 }
 
 // The cursor goes on; past the last row it stays.
-pub fn on_from(area: Area, at: Cursor) -> Cursor
+fn on_from(area: Area, at: Cursor) -> Cursor
     ensures { result ≡ rule.on_from area at }
 {
     if area.y1 < at.y {
@@ -119,10 +119,23 @@ fn flow(
     }
 }
 
-// The record takes over what a run changed.
-pub fn taken_over(p: Uc8253, a: Active, f: Change) -> Flowed
-    ensures { result ≡ rule.flowed_by p a f }
+// The run goes into its plane, and the record takes over what it changed.
+fn flow_into(p: Uc8253, a: Active, plane: &mut [u8], events: &[u8], from: usize) -> Flowed
+    requires { from ≤ events_in events.now }
+    ensures { rule.FlowsInto events.now from p a plane.old plane.new result }
 {
+    let regs = p.regs;
+    let cursor = a.cursor;
+    let f = flow(
+        plane,
+        regs.written(),
+        a.past_reported,
+        events,
+        from,
+        cursor,
+        a.received,
+        p.now,
+    );
     let kind = a.kind;
     let at = f.cursor;
     let b = Active {
@@ -146,28 +159,7 @@ pub fn taken_over(p: Uc8253, a: Active, f: Change) -> Flowed
     }
 }
 
-// The run goes into its plane.
-fn flow_into(p: Uc8253, a: Active, plane: &mut [u8], events: &[u8], from: usize) -> Flowed
-    requires { from ≤ events_in events.now }
-    ensures { rule.FlowsInto events.now from p a plane.old plane.new result }
-{
-    let regs = p.regs;
-    let cursor = a.cursor;
-    let f = flow(
-        plane,
-        regs.written(),
-        a.past_reported,
-        events,
-        from,
-        cursor,
-        a.received,
-        p.now,
-    );
-    taken_over(p, a, f)
-}
-
-// Nothing runs.
-pub fn resting(work: Work) -> bool
+fn resting(work: Work) -> bool
     ensures { result ≡ rule.rests_by work }
 {
     match work {
@@ -233,8 +225,7 @@ fn target_of(a: Active) -> Target
     Target::Nowhere
 }
 
-// The command under way, if it takes pixel bytes.
-pub fn aim(stage: Stage) -> Target
+fn aim(stage: Stage) -> Target
     ensures { rule.Aims result stage.current }
 {
     let current = stage.current;

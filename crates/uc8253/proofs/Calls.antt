@@ -19,7 +19,7 @@ use Rattle.controller.specs.Glass.{states_by, picture_by}
 use Rattle.controller.specs.TurnedBack.{turned_back}
 use Rattle.controller.specs.Calls.{read_answer}
 use Rattle.controller.specs.Ask.{Ask, command, datum, reading, advance, reset, vcom_rule, taking}
-use Rattle.controller.specs.Ask.{ask_busy, ask_deadline, ask_bit, ask_row, ask_picture, ask_between}
+use Rattle.controller.specs.Ask.{ask_busy, ask_deadline, ask_bit, ask_row, ask_picture}
 use Rattle.controller.specs.Ask.{When, at, when_of, copied_when, driven_when, put_by, record_after, old_after, new_after, rows_after}
 use Rattle.controller.specs.Ask.{refused_by, did, byte}
 use Rattle.controller.proofs.TurnedAway.{did_no, did_parts}
@@ -39,7 +39,6 @@ timed_refused ask_deadline t s w e = cc
 timed_refused (ask_bit older x y) t s w e = cc
 timed_refused (ask_row y) t s w e = cc
 timed_refused (ask_picture top buffer) t s w e = cc
-timed_refused (ask_between frames buffer) t s w e = cc
 
 -- p and b are record and buffers before the call, m the buffers once it has come; n is the number of its refusal, and z that it is none
 module _ (a : Ask) {t : ℕ} {s : Bool} (timed : when_of a ≡ at t s) (p : Uc8253) (b : Buffers) {m : Buffers} {n : ℕ} {z : Bool}

@@ -11,7 +11,6 @@ ghost use Rattle.controller.specs.Lent.{Called, Answers};
 
 use arriving::arrive;
 use base::Refusal;
-pub use between::between_frames;
 use chip::{after_advance, after_command, after_data, after_read, after_reset, after_rule};
 pub use controller::Answer;
 use controller::{Read, Uc8253};

@@ -32,7 +32,7 @@ use Rattle.controller.specs.DataByte as byte
 use Rattle.controller.specs.Reading as rd
 use Rattle.controller.specs.Reset as rst
 use Rattle.controller.specs.Counting.{own}
-use Rattle.controller.specs.Ask.{Ask, command, datum, reading, advance, reset, vcom_rule, taking, ask_busy, ask_deadline, ask_bit, ask_row, ask_picture, ask_between}
+use Rattle.controller.specs.Ask.{Ask, command, datum, reading, advance, reset, vcom_rule, taking, ask_busy, ask_deadline, ask_bit, ask_row, ask_picture}
 use Rattle.controller.specs.Ask.{record_after}
 use Rattle.walk.proofs.Seen.{single, over, apt}
 use Rattle.walk.proofs.Commands.{not_single}
@@ -171,4 +171,3 @@ apt_after ask_deadline p q = q
 apt_after (ask_bit older x y) p q = q
 apt_after (ask_row y) p q = q
 apt_after (ask_picture top wide) p q = q
-apt_after (ask_between frames buffer) p q = q

@@ -12,7 +12,7 @@ use Rattle.command.specs.declared.kinds.Kind.TheVariants as kind
 use Rattle.command.specs.Kinds.{kind_of, takes_byte}
 use Rattle.registers.specs.Flags.{bit_set, copies_new_to_old}
 use Rattle.registers.specs.Written.{written_of}
-use Rattle.controller.specs.Ask.{Ask, command, datum, reading, advance, reset, vcom_rule, taking, ask_busy, ask_deadline, ask_bit, ask_row, ask_picture, ask_between}
+use Rattle.controller.specs.Ask.{Ask, command, datum, reading, advance, reset, vcom_rule, taking, ask_busy, ask_deadline, ask_bit, ask_row, ask_picture}
 use Rattle.walk.specs.Machine.{busy, restarts, Out, done, reached, due, settled, dropped, able, refresh, acted, ordered, commanded}
 use Rattle.walk.specs.Machine.{softened, streamed, stored, took, took_by, heard, given, cleared, lowered, raised, stepped, fresh}
 use Rattle.walk.specs.Kept.{Order, Hearing, none, ignored, under, Task, powers_up, powers_down}
@@ -141,7 +141,6 @@ calm_stepped g m ask_deadline c = c
 calm_stepped g m (ask_bit older x y) c = c
 calm_stepped g m (ask_row y) c = c
 calm_stepped g m (ask_picture top wide) c = c
-calm_stepped g m (ask_between frames buffer) c = c
 
 pub calm_fresh : (g : Uc8253Config) → Calm (fresh g)
 unfolding fresh

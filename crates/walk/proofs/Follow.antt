@@ -27,7 +27,7 @@ use Rattle.controller.specs.Glass.{driven_at, numbers_now, states_by}
 use Rattle.controller.specs.TurnedBack.{cuts, ends_refresh}
 use Rattle.controller.specs.Counting.{own}
 use Rattle.controller.specs.Sound.{SoundChip}
-use Rattle.controller.specs.Ask.{Ask, command, datum, reading, advance, reset, vcom_rule, taking, ask_busy, ask_deadline, ask_bit, ask_row, ask_picture, ask_between}
+use Rattle.controller.specs.Ask.{Ask, command, datum, reading, advance, reset, vcom_rule, taking, ask_busy, ask_deadline, ask_bit, ask_row, ask_picture}
 use Rattle.controller.specs.Ask.{record_after, old_after, new_after, driven_by, lent_after}
 use Rattle.controller.proofs.Keeps.{kept_arrived}
 use Rattle.controller.proofs.Quiet.{GuardedIn, guarded_arrived}
@@ -89,7 +89,6 @@ module _ (w : World) (calm : Calm (machine_of w)) (apt : Apt w.chip) (sound : So
   machine_done (ask_bit older x y) = refl
   machine_done (ask_row y) = refl
   machine_done (ask_picture top wide) = refl
-  machine_done (ask_between frames buffer) = refl
 
 -- ---- the glass
 cuts_none : (y : Power) → cuts y false ≡ false
@@ -187,7 +186,6 @@ module _ {X : Type 0} (p : Uc8253) (old new : List ℕ) (F : Ended → X) (G : D
     ended_as (ask_bit older x y) = none
     ended_as (ask_row y) = none
     ended_as (ask_picture top wide) = none
-    ended_as (ask_between frames buffer) = none
 
 -- what an accepted call does to the states is what the machine says
 pub glass_done : (a : Ask) (w : World)

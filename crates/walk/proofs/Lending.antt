@@ -24,8 +24,7 @@ use Rattle.controller.proofs.TurnedAway.{done_to, did_no, did_yes}
 use Rattle.controller.proofs.Glass.{numbers_length, numbers_known}
 use Rattle.controller.proofs.Sound.{home, never_turned}
 use Rattle.walk.specs.Machine.{Fed}
-use Rattle.controller.specs.Between.{between_refused, between_fits}
-use Rattle.controller.specs.Ask.{Ask, command, datum, reading, advance, reset, vcom_rule, taking, ask_busy, ask_deadline, ask_bit, ask_row, ask_picture, ask_between}
+use Rattle.controller.specs.Ask.{Ask, command, datum, reading, advance, reset, vcom_rule, taking, ask_busy, ask_deadline, ask_bit, ask_row, ask_picture}
 use Rattle.walk.specs.Calls.{Call, handed, result, turned, next, OwnFor, OwnBuffers, Bytes, fed_at, fed_by, start}
 use Rattle.controller.specs.Ask.{IsByte, record_after, old_after, new_after, rows_after, lent_after, did_by, did, refused_by, writes}
 use Rattle.walk.proofs.Seen.{job_of, machine_of}
@@ -47,7 +46,6 @@ spared ask_deadline w e = refl
 spared (ask_bit older x y) w e = refl
 spared (ask_row y) w e = refl
 spared (ask_picture top wide) w e = refl
-spared (ask_between frames buffer) w e = refl
 
 pub spares : (a : Ask) (w : World) → writes a ≡ false → (did a w).lent ≡ w.lent
 unfolding did_by
@@ -122,7 +120,6 @@ roomy n ask_deadline = true
 roomy n (ask_bit older x y) = true
 roomy n (ask_row y) = true
 roomy n (ask_picture top wide) = eqb (length wide) n
-roomy n (ask_between frames buffer) = eqb (length buffer) n
 
 -- ---- what a sound world has
 and_left : (a b : Bool) → (a && b) ≡ true → a ≡ true
@@ -189,7 +186,7 @@ plane_long true w l = l.old
 plane_long false w l = l.new
 
 pub sound_accepted : (a : Ask) (w : World) → Sound w → roomy (pixels w.chip.config) a ≡ true → refused_by a w ≡ 0
-unfolding calls.taking_refused calls.question_refused calls.bit_refused calls.row_refused calls.wide_refused between_refused between_fits
+unfolding calls.taking_refused calls.question_refused calls.bit_refused calls.row_refused calls.wide_refused
 sound_accepted (command t c) w s r = never_turned false t w s
 sound_accepted (datum t b) w s r = never_turned false t w s
 sound_accepted (reading t) w s r = never_turned false t w s
@@ -202,9 +199,6 @@ sound_accepted ask_deadline w s r = lent_accepted w s true refl
 sound_accepted (ask_bit older x y) w s r = lent_accepted w s _ (plane_long older w (lengths w s.fits))
 sound_accepted (ask_row y) w s r = lent_accepted w s _ (lengths w s.fits).picture
 sound_accepted (ask_picture top wide) w s r = rw (home w.chip s.chip, (lengths w s.fits).states, r, s.states)
-sound_accepted (ask_between frames buffer) w s r =
-    let l = lengths w s.fits in
-    rw (home w.chip s.chip, l.old, l.new, l.states, l.picture, r, s.states)
 
 -- ---- lists that can be: the calls that are to be turned back are lent empty buffers, the others the place's own
 abbrev pub no_buffers : Buffers
@@ -231,7 +225,6 @@ is_byte ask_deadline = true
 is_byte (ask_bit older x y) = true
 is_byte (ask_row y) = true
 is_byte (ask_picture top wide) = true
-is_byte (ask_between frames buffer) = true
 
 abbrev pub plain : ℕ → List Fed → Bool
 plain n [] = true
@@ -250,7 +243,6 @@ is_byte_lem ask_deadline e = tt
 is_byte_lem (ask_bit older x y) e = tt
 is_byte_lem (ask_row y) e = tt
 is_byte_lem (ask_picture top wide) e = tt
-is_byte_lem (ask_between frames buffer) e = tt
 
 module _ (n : ℕ) (f : Fed) (fs : List Fed) (e : plain n (f ∷ fs) ≡ true) where
   pub plain_byte : IsByte f.ask
@@ -286,7 +278,6 @@ turned_none ask_deadline at e = absurd (true≢false (sym e))
 turned_none (ask_bit older x y) at e = absurd (true≢false (sym e))
 turned_none (ask_row y) at e = absurd (true≢false (sym e))
 turned_none (ask_picture top wide) at e = absurd (true≢false (sym e))
-turned_none (ask_between frames buffer) at e = absurd (true≢false (sym e))
 
 -- one call of it, where a call lent the place's buffers is accepted
 module _ (at : World) (n : ℕ) (accepts : (a : Ask) → roomy n a ≡ true → turned at (record { ask = a; lent = at.lent }) ≡ false) where

@@ -17,5 +17,3 @@ pub mod Inhabited
 pub mod Acceptance
 pub mod Quiet
 pub mod QuietExample
-pub mod Between
-pub mod BetweenExample

@@ -19,7 +19,7 @@ use Rattle.pixels.specs.Drive.{by_number, frames_for}
 use Rattle.pixels.proofs.ListLaws.{beside_at}
 use Rattle.pixels.proofs.StateLaws.{numbers_known, states_in_range}
 use Rattle.controller.specs.Glass.{walked}
-use Rattle.controller.specs.Ask.{Ask, command, datum, reading, advance, reset, vcom_rule, taking, ask_busy, ask_deadline, ask_bit, ask_row, ask_picture, ask_between}
+use Rattle.controller.specs.Ask.{Ask, command, datum, reading, advance, reset, vcom_rule, taking, ask_busy, ask_deadline, ask_bit, ask_row, ask_picture}
 use Rattle.walk.specs.Machine.{Ended, nothing, whole, cut, frames_on, frames_by, Out, done}
 use Rattle.walk.specs.Machine.{reached, due, settled, cut_task, cut_job, lowered, stepped}
 use Rattle.walk.specs.Kept.{Noted, Task, powers_up, powers_down, falls_asleep, resets_softly}
@@ -135,7 +135,6 @@ module _ (n : ℕ) (g : Uc8253Config) where
   stepped_serves m (ask_bit older x y) s = tt
   stepped_serves m (ask_row y) s = tt
   stepped_serves m (ask_picture top wide) s = tt
-  stepped_serves m (ask_between frames buffer) s = tt
 
 -- ---- the state at pixel p
 module _ (swing : ℕ) (black : Bool) (ss : List ℤ) (p : ℕ) (h : p < length ss) where

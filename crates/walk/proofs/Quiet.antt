@@ -21,7 +21,7 @@ use Rattle.controller.specs.Reset.{reset_edge}
 use Rattle.controller.specs.Planes.{old_arrived}
 use Rattle.controller.specs.Counting.{own}
 use Rattle.controller.specs.TurnedBack.{making_refused}
-use Rattle.controller.specs.Ask.{Ask, command, datum, reading, advance, reset, vcom_rule, taking, ask_busy, ask_deadline, ask_bit, ask_row, ask_picture, ask_between}
+use Rattle.controller.specs.Ask.{Ask, command, datum, reading, advance, reset, vcom_rule, taking, ask_busy, ask_deadline, ask_bit, ask_row, ask_picture}
 use Rattle.controller.specs.Ask.{when_of, clock_when, record_after, old_after, new_after, lent_after}
 use Rattle.controller.proofs.Quiet.{Stays, stays, GuardedIn, guarded_after, arrived_before, spared_command, spared_data, plane_quiet}
 use Rattle.controller.proofs.Quiet.{spared_reading, spared_released, guarded_made}
@@ -84,7 +84,6 @@ stays_done ask_deadline w g r h = refl
 stays_done (ask_bit older x y) w g r h = refl
 stays_done (ask_row y) w g r h = refl
 stays_done (ask_picture top wide) w g r h = refl
-stays_done (ask_between frames buffer) w g r h = refl
 
 -- ---- a call of the list, refused or accepted
 guarded_next : (at : World) (c : Call) → Gone at c → GuardedIn at.chip → GuardedIn (next at c).chip
@@ -180,7 +179,6 @@ module _ (early end now : ℕ) (h : (t : ℕ) → t < early → max now t < end)
   before (ask_bit older x y) e = refl
   before (ask_row y) e = refl
   before (ask_picture top wide) e = refl
-  before (ask_between frames buffer) e = refl
 
 before_now : (end now : ℕ) → now < end → (a : Ask) → comes_before end 0 a ≡ true → comes_before end now a ≡ true
 before_now end now n = before end end now (λ t l. omega (arith, l))
@@ -200,7 +198,6 @@ clock_below end ask_deadline now n h = n
 clock_below end (ask_bit older x y) now n h = n
 clock_below end (ask_row y) now n h = n
 clock_below end (ask_picture top wide) now n h = n
-clock_below end (ask_between frames buffer) now n h = n
 
 clock_done : (end : ℕ) (a : Ask) (w : World) → w.chip.now < end → comes_before end w.chip.now a ≡ true → (done_to own a w).chip.now < end
 clock_done end a w n h = subst (λ (t : ℕ). t < end) (sym (clock_after_lem a w.chip)) (clock_below end a w.chip.now n h)

@@ -30,7 +30,7 @@ use Rattle.walk.specs.Quiet.{Runs, IsEntry, comes_before, Undisturbed, Same}
 use Rattle.walk.proofs.Quiet.{before, undisturbed_by_times, quiet_under_busy}
 use Rattle.walk.proofs.Seen.{job_of, machine_of}
 use Rattle.walk.proofs.Lending.{lending_of, lending, plain, pixels, bytes_lending, Lent}
-use Rattle.walk.proofs.Demand.{Good, start_good, after_good, start_machine, after_machine, lendable}
+use Rattle.walk.proofs.Demand.{start_good, start_machine, after_machine, lendable}
 use Rattle.walk.proofs.OnePixel.{all, taken_by_lem}
 
 -- from number i on each call is turned back, or comes before the end
@@ -70,7 +70,7 @@ lend_take at (f ∷ fs) zero = refl
 lend_take at (f ∷ fs) (suc m) = ap (λ (cs : List Call). lending_of at f ∷ cs) (lend_take (next at (lending_of at f)) fs m)
 
 -- the end of what the machine does
-abbrev pub end_of : Job → ℕ
+abbrev end_of : Job → ℕ
 end_of idle = 0
 end_of (until e k) = e
 
@@ -84,10 +84,10 @@ runs_until work.HardwareReset s e v ns n p q = (refl, q)
 runs_until (work.Refresh r) s e v ns n p q = (refl, q)
 
 -- ---- a list on the panel of one pixel, whose calls are lent what turns them back or not as it says
-abbrev pub calls : Uc8253Config → List Fed → List Call
+abbrev calls : Uc8253Config → List Fed → List Call
 calls g fs = lending (start g bench) fs
 
-abbrev pub placed : Uc8253Config → List Fed → ℕ → World
+abbrev placed : Uc8253Config → List Fed → ℕ → World
 placed g fs k = place g bench (calls g fs) k
 
 module _ (g : Uc8253Config) (gray : g.optics.initial_gray < 256) (taken : making_refused g bench ≡ 0) (fs : List Fed)
@@ -96,7 +96,7 @@ module _ (g : Uc8253Config) (gray : g.optics.initial_gray < 256) (taken : making
   lent = lendable g bench fs gray taken fine
 
   -- at each place the controller is as the machine is
-  pub shows : (m : ℕ) → plain (pixels g) (take m fs) ≡ true → machine_of (placed g fs m) ≡ ran g (fresh g) (take m fs)
+  shows : (m : ℕ) → plain (pixels g) (take m fs) ≡ true → machine_of (placed g fs m) ≡ ran g (fresh g) (take m fs)
   unfolding place
   shows m q =
       let l = lendable g bench (take m fs) gray taken q in
@@ -105,14 +105,6 @@ module _ (g : Uc8253Config) (gray : g.optics.initial_gray < 256) (taken : making
       (bytes_lending (pixels g) (start g bench) (take m fs) q) l.own
       ∙ (λ k. ran g (start_machine g bench taken k) (l.fed k))
 
-  pub good_at : (m : ℕ) → plain (pixels g) (take m fs) ≡ true → Good g (placed g fs m)
-  unfolding place
-  good_at m q =
-      let l = lendable g bench (take m fs) gray taken q in
-      subst (λ (cs : List Call). Good g (after (start g bench) cs)) (sym (lend_take (start g bench) fs m))
-      (after_good g (start g bench) (calls g (take m fs)) (start_good g bench gray taken)
-      (bytes_lending (pixels g) (start g bench) (take m fs) q) l.own)
-
   entry : (k : ℕ) (c : Call) → IsEntry (calls g fs) k c → IsEntry fs k (fed_at (placed g fs k) c)
   unfolding place
   entry k c is = subst (λ (l : List Fed). IsEntry l k (fed_at (placed g fs k) c)) lent.fed (fed_entry (start g bench) (calls g fs) k c is)
@@ -120,7 +112,7 @@ module _ (g : Uc8253Config) (gray : g.optics.initial_gray < 256) (taken : making
   -- by the machine an operation with this end runs at place i
   module _ (i j end : ℕ) (le : i ≤ j) (lj : j ≤ length (calls g fs)) (some : 0 < end) (q : plain (pixels g) (take i fs) ≡ true)
       (is : end_of (ran g (fresh g) (take i fs)).job ≡ end) where
-    pub runs : Runs (placed g fs i) × ((placed g fs i).chip.operation.until ≡ end)
+    runs : Runs (placed g fs i) × ((placed g fs i).chip.operation.until ≡ end)
     runs =
         let p = (placed g fs i).chip in
         runs_until p.operation.work p.operation.started p.operation.until p.waveform

@@ -21,7 +21,7 @@ use Rattle.waveform.specs.Levels.{levels_of}
 use Rattle.waveform.specs.Tables.{waveform_of, duration_of}
 use Rattle.waveform.specs.Frames.{frames_of}
 use Rattle.numbers.specs.Number.{mapping_of, number_of}
-use Rattle.controller.specs.Ask.{Ask, command, datum, reading, advance, reset, vcom_rule, taking, ask_busy, ask_deadline, ask_bit, ask_row, ask_picture, ask_between}
+use Rattle.controller.specs.Ask.{Ask, command, datum, reading, advance, reset, vcom_rule, taking, ask_busy, ask_deadline, ask_bit, ask_row, ask_picture}
 use Rattle.walk.specs.Kept.{Order, Hearing, none, ignored, under, Noted}
 use Rattle.walk.specs.Kept.{Task, powers_up, powers_down, falls_asleep, resets_softly, resets_hardly, drives, Job, idle, until, Machine}
 use Rattle.walk.specs.Parts.{with_clock, with_low, with_sleep, with_power, with_regs, with_luts, with_hears, with_old, with_new, with_job, with_rule}
@@ -289,7 +289,6 @@ stepped g m ask_deadline = quiet m
 stepped g m (ask_bit older x y) = quiet m
 stepped g m (ask_row y) = quiet m
 stepped g m (ask_picture top wide) = quiet m
-stepped g m (ask_between frames buffer) = quiet m
 
 -- the whole frames that pixel p gets at a call
 unfoldable pub frames_at : Uc8253Config → Machine → Ask → ℕ → List ℤ

@@ -5,7 +5,7 @@ use Rattle.config.specs.declared.Uc8253Config.{Uc8253Config}
 use Rattle.controller.specs.World.{World, Buffers}
 use Rattle.controller.specs.Command.{busy}
 use Rattle.controller.specs.TurnedBack.{making_refused}
-use Rattle.controller.specs.Ask.{Ask, command, datum, reading, advance, reset, vcom_rule, taking, ask_busy, ask_deadline, ask_bit, ask_row, ask_picture, ask_between}
+use Rattle.controller.specs.Ask.{Ask, command, datum, reading, advance, reset, vcom_rule, taking, ask_busy, ask_deadline, ask_bit, ask_row, ask_picture}
 use Rattle.walk.specs.Calls.{Call, turned, OwnBuffers, Bytes, start, place}
 
 -- an operation runs at a place: it was started, and has neither ended nor been dropped by a reset
@@ -34,7 +34,6 @@ comes_before end now ask_deadline = true
 comes_before end now (ask_bit older x y) = true
 comes_before end now (ask_row y) = true
 comes_before end now (ask_picture top wide) = true
-comes_before end now (ask_between frames buffer) = true
 
 -- each call between places i and j is refused, or comes before the end of the operation that runs at i. That the clock lies below this
 -- end at i is not asked: one of no duration, or one started at 2^64 - 1, runs with the clock at its end until the next accepted timed call

@@ -11,7 +11,7 @@ ghost use Rattle.base.specs.Word.{top};
 ghost use Rattle.glass.specs.Transfer.{Acts};
 ghost use Rattle.waveform.specs.Levels.{levels_of, level_of_code};
 ghost use Rattle.waveform.specs.Tables.{group_of, table_of, tables_of, waveform_of, sum_of, ends, running};
-ghost use Rattle.waveform.specs.Tables.{table_frame_count, table_at, refresh_frames, duration_of};
+ghost use Rattle.waveform.specs.Tables.{table_frame_count, refresh_frames, duration_of};
 ghost use Rattle.waveform.specs.Frames.{drive_of, vcom_codes, round_frames, group_frames, codes_of, frames_of};
 ghost use Rattle.waveform.specs.InnerProgress.{Parts, Drives, Extends, frames_under};
 ghost use Rattle.waveform.specs.InnerPlaces.{place_at, start_at, next_place, codes_from, Placed, Stands};
@@ -548,17 +548,6 @@ impl Waveform {
         ensures { result ≡ waveform_of luts levels frame_ns vcom_by_frame }
     {
         Waveform::of(decode(luts), levels, frame_ns, vcom_by_frame)
-    }
-
-    // The frames of table `lut`, up to its end; a number that no table has gives none.
-    pub fn lut_frames(self, lut: usize) -> u64
-        ensures { (result ≡ table_frame_count (table_at self lut)) × (result ≤ 1820700) }
-    {
-        if LUTS <= lut {
-            return 0;
-        }
-        let tables = self.tables();
-        table_frames(tables[lut])
     }
 
     // The frames of the refresh: those of the longest of the five LUTs, then two of VCOM_DC.

@@ -26,13 +26,11 @@
 
 mod configuration;
 mod event;
-mod forecast;
 mod panel;
 pub mod raw;
 mod refused;
 
 pub use configuration::{Configuration, FRAME_PERIODS, Variant};
 pub use event::{Answer, EVENT_BYTES, Event, What, read_capture, write_capture};
-pub use forecast::{Forecast, forecast};
 pub use panel::{MOST_ROWS, PLANE_BYTES, Panel, Parts, Plane, ROW_NUMBERS, RunError};
 pub use refused::Refused;

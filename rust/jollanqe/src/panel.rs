@@ -46,7 +46,7 @@ pub struct Parts {
 /// A panel behind its controller.
 ///
 /// Of a panel that [`Panel::new`] made, no call is ever refused (a theorem of the library), but for a
-/// picture at a top or between frames into a buffer of another length. One that
+/// picture at a top into a buffer of another length. One that
 /// was put together by [`Panel::from_parts`] may be, by 6, 5 or 7; nothing has changed then.
 #[derive(Clone, Debug, PartialEq, Eq)]
 pub struct Panel(Parts);
@@ -378,34 +378,6 @@ impl Panel {
                 .flat_map(|grey| grey.to_be_bytes().into_iter().skip(skipped)),
         );
         Ok(bytes)
-    }
-
-    /// The picture that the glass has after so many frames of the running refresh into `seen`, an entry a
-    /// pixel, 0 black to 255 white: what a reset after exactly so many frames would leave, whatever the
-    /// clock is, and from the longest table's length on the finished refresh. With no refresh running it
-    /// is a copy of [`Panel::picture`]. Refused by 6, by 5 where `seen` has not sources × gates entries
-    /// or a buffer of the panel but the rows is short or long, by 7 for a state out of range, refresh or
-    /// not; nothing has changed then.
-    pub fn between(&self, frames: u64, seen: &mut [u8]) -> Result<(), Refused> {
-        let parts = &self.0;
-        // SAFETY: each pointer and length are those of one slice, and the last overlaps no other.
-        let asked = unsafe {
-            raw::jollanqe_between(
-                parts.record,
-                frames,
-                parts.old.as_ptr(),
-                parts.old.len(),
-                parts.new.as_ptr(),
-                parts.new.len(),
-                parts.states.as_ptr(),
-                parts.states.len(),
-                parts.picture.as_ptr(),
-                parts.picture.len(),
-                seen.as_mut_ptr(),
-                seen.len(),
-            )
-        };
-        Refused::test(asked.refused)
     }
 
     /// The controller's record, to look at.

@@ -298,26 +298,6 @@ pub struct Asked {
     pub known: bool,
 }
 
-/// What a capture will need; zeros where it is refused.
-#[derive(Clone, Copy, Debug, PartialEq, Eq)]
-#[repr(C)]
-pub struct Needs {
-    /// Refreshes that end by themselves or are cut by reset.
-    pub ended: u64,
-    /// Rows of diagnostics that find no room.
-    pub dropped: u64,
-    /// When what runs after the last event ends; 0 where nothing runs.
-    pub deadline: u64,
-    /// Frames driven by the refreshes ended, over the four pixel tables.
-    pub frames: u64,
-    /// Rows of diagnostics that are stored.
-    pub stored: u16,
-    /// The refusal's number, 0 where the capture was taken.
-    pub refused: u8,
-    /// There is a deadline.
-    pub known: bool,
-}
-
 const _: () = assert!(size_of::<Area>() == 8 && offset_of!(Area, y1) == 6);
 const _: () = assert!(size_of::<Pair>() == 4 && size_of::<Cursor>() == 4);
 const _: () = assert!(size_of::<Geometry>() == 6 && size_of::<Optics>() == 16);
@@ -332,10 +312,9 @@ const _: () = assert!(size_of::<Image>() == 32 && offset_of!(Image, interrupted)
 const _: () = assert!(size_of::<Record>() == 1032 && offset_of!(Record, vcom_by_frame) == 1031);
 const _: () = assert!(size_of::<Given>() == 1040 && offset_of!(Given, answer) == 1034);
 const _: () = assert!(size_of::<Asked>() == 16 && offset_of!(Asked, known) == 9);
-const _: () = assert!(size_of::<Needs>() == 40 && offset_of!(Needs, known) == 35);
 
 // SAFETY, of each: a pointer and the length after it are those of one slice; a slice behind a `*mut`
-// overlaps no other of the call. A question without a pointer takes numbers alone.
+// overlaps no other of the call. The questions take numbers alone.
 unsafe extern "C" {
     /// Makes a panel from the configuration of a capture file.
     pub fn jollanqe_make(
@@ -499,23 +478,4 @@ unsafe extern "C" {
         wide_length: usize,
         top: u16,
     ) -> Asked;
-
-    /// The picture after so many frames of the running refresh, into the last of the lent slices.
-    pub fn jollanqe_between(
-        chip: Record,
-        frames: u64,
-        old: *const u8,
-        old_length: usize,
-        new: *const u8,
-        new_length: usize,
-        states: *const i64,
-        states_length: usize,
-        picture: *const u8,
-        picture_length: usize,
-        seen: *mut u8,
-        seen_length: usize,
-    ) -> Asked;
-
-    /// What a capture will need, from its bytes alone.
-    pub fn jollanqe_forecast(file: *const u8, file_length: usize) -> Needs;
 }

@@ -1,25 +1,28 @@
 -- `making::power_on` meets its contract: every buffer filled, or refused.
 use Rattle.making.proofs.FirstWorld.{at_level, made_first, made_none}
+use Rattle.controller.specs.Calls.{untouched, first_chip}
 use Rattle.controller.specs.World.{buffers}
 use Rattle.base.proofs.RefusalWords.{told}
 use lib.ListN.{length}
 use native.Mathlib.Omega.{arith}
+use mathlib.Core.Path.{ap, ◌∙◌}
 use borrow.Author.Rules.{rules}
 use Rattle.making.proofs.power_on.Statement.{statement}
 use Rattle.making.proofs.power_on.Tie as tie
 
 same_length : tie.Need-same-length
-same_length c = c.before.before.before.before.before.before.before.before.before.before.before.before.before.before.before.before.before.before.before.fill-bytes.auto.0
+same_length c = c.before.before.before.before.before.before.before.before.before.before.before.before.before.before.before.before.before.before.before.before.fill-bytes.auto.0
 
 same-length-2 : tie.Need-same-length-2
-same-length-2 c = c.before.before.before.before.before.before.before.before.before.before.before.before.before.before.before.fill-bytes2.auto.0
+same-length-2 c = c.before.before.before.before.before.before.before.before.before.before.before.before.before.before.before.before.fill-bytes2.auto.0
 
 same-length-3 : tie.Need-same-length-3
-same-length-3 c = c.before.before.before.before.before.before.before.before.before.before.fill-states.auto.0
+same-length-3 c = c.before.before.before.before.before.before.before.before.before.before.before.fill-states.auto.0
 
 returns : tie.Need-returns
+unfolding first_chip
 returns c =
-    let rows = c.before.before.before in
+    let rows = c.before.before.before.before in
     let picture = rows.before.before.before.before in
     let states = picture.before.before.before in
     let new = states.before.before.before.before.before in
@@ -28,10 +31,10 @@ returns c =
     let first = test.before.before in
     let g = first.before.before.before.before.before.before.before.before.before.before in
     let a = g.args in (
-      made_first a.config (buffers a.old.now a.new.now a.states.now a.picture.now a.rows.now) c.first-chip.result _
+      made_first a.config (buffers a.old.now a.new.now a.states.now a.picture.now a.rows.now) c.untouched.result _
           (omega (arith, g.well-formed.0)) (told test.before.none.ensures first.making-refused.ensures test.if1.true)
           (record {
-            chip_is = c.first-chip.ensures;
+            chip_is = c.untouched.ensures ∙ ap (untouched a.config) c.before.reset.ensures;
             old_is = old.fill-bytes.ensures;
             new_is = new.fill-bytes2.ensures;
             states_is = at_level (length a.states.now) states.fill-states.ensures states.before.level.ensures;
@@ -54,6 +57,7 @@ pub power-on-spec : {M : Type 1} → statement M
 power-on-spec =
     tie.close
     (tie.spec
+    (λ c κs. search rules)
     (λ c κs. search rules)
     (λ c κs. search rules)
     (λ c κs. search rules)

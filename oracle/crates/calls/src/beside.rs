@@ -22,8 +22,6 @@ use crate::steps::Step;
 const SMALL_PICTURE: usize = 2_048;
 /// At which tops the picture of such a panel is asked for when a trace ends, in turn.
 const TOPS: [u16; 7] = [65_535, 0, 1, 255, 256, 4_095, 65_534];
-/// The record's number of a refresh that runs.
-const REFRESH: u8 = 6;
 /// What an entry of a run's answers holds before: no answer.
 const UNANSWERED: u16 = u16::MAX;
 
@@ -60,7 +58,7 @@ pub enum Made {
 }
 
 /// The library's panel of a configuration.
-pub fn panel(configuration: &Configuration) -> Result<Panel, Refused> {
+fn panel(configuration: &Configuration) -> Result<Panel, Refused> {
     let capture = Capture {
         configuration: configuration.clone(),
         events: Vec::new(),
@@ -211,12 +209,10 @@ impl Beside {
         self.compare_rows()
     }
 
-    /// The end of a trace: every bit, every pixel, every row; of a small panel the picture at a top, and
-    /// the one between frames.
+    /// The end of a trace: every bit, every pixel, every row; of a small panel the picture at a top.
     pub fn end(&mut self) -> Result<(), Difference> {
         self.compare_whole()?;
         self.compare_top()?;
-        self.compare_between()?;
         self.take()
     }
 
@@ -291,25 +287,6 @@ impl Beside {
         self.ours.picture_at(top, &mut wide)?;
         let shades = Shades::of(&self.rust, top);
         same("picture at a top", (top, &wide[..]), (top, shades.greys()))
-    }
-
-    /// At 0 frames of a refresh it is the states, with none running the last picture, whatever the
-    /// count. `calls between` asks for the other counts.
-    fn compare_between(&self) -> Result<(), Difference> {
-        let mut seen = vec![0; self.ours.picture().len()];
-        if seen.len() > SMALL_PICTURE {
-            return Ok(());
-        }
-        let runs = self.ours.record().operation.work == REFRESH;
-        let frames = if runs { 0 } else { self.turn as u64 };
-        self.ours.between(frames, &mut seen)?;
-        let greys: Vec<u16> = seen.into_iter().map(u16::from).collect();
-        let last = self.rust.panel_image().pixels.iter();
-        let must = match runs {
-            true => Shades::of(&self.rust, 255).greys().to_vec(),
-            false => last.map(|&grey| u16::from(grey)).collect(),
-        };
-        same("picture between frames", (frames, greys), (frames, must))
     }
 
     fn compare_whole(&self) -> Result<(), Difference> {

@@ -1,11 +1,9 @@
 //! `calls`: the library, call by call, beside the published Rust in one process.
 
 mod beside;
-mod between;
 mod compare;
 mod coverage;
 mod difference;
-mod forecasts;
 mod keep;
 mod memory;
 mod sample;
@@ -25,8 +23,6 @@ use coverage::Coverage;
 use traces::Trace;
 
 const USAGE: &str = "usage: calls [EVENTS [SEED]]
-       calls between REFRESHES [SEED]
-       calls forecasts CAPTURES [SEED]
        calls sample DIR
 ";
 const USUAL_EVENTS: u64 = 1_000_000;
@@ -81,14 +77,6 @@ fn compare(events: u64, seed: u64) -> io::Result<ExitCode> {
     Ok(ExitCode::SUCCESS)
 }
 
-fn between(refreshes: u64, seed: u64) -> io::Result<ExitCode> {
-    between::compare(refreshes, seed, Path::new(DIFFERENCE))
-}
-
-fn forecasts(captures: u64, seed: u64) -> io::Result<ExitCode> {
-    forecasts::compare(captures, seed, Path::new(DIFFERENCE))
-}
-
 fn number(word: &str) -> io::Result<u64> {
     word.parse()
         .map_err(|error| io::Error::new(io::ErrorKind::InvalidInput, format!("{word}: {error}")))
@@ -105,10 +93,6 @@ fn fresh_seed() -> u64 {
 fn obey(words: &[&str]) -> io::Result<ExitCode> {
     match words {
         [] => compare(USUAL_EVENTS, fresh_seed()),
-        ["between", refreshes] => between(number(refreshes)?, fresh_seed()),
-        ["between", refreshes, seed] => between(number(refreshes)?, number(seed)?),
-        ["forecasts", captures] => forecasts(number(captures)?, fresh_seed()),
-        ["forecasts", captures, seed] => forecasts(number(captures)?, number(seed)?),
         ["sample", directory] => {
             print!("{}", sample::write(Path::new(directory))?);
             Ok(ExitCode::SUCCESS)

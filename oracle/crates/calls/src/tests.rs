@@ -1,9 +1,8 @@
-//! The sample read back by its layout and replayed on the library; the glass between frames; forecasts.
+//! The sample read back by its layout and replayed on the library.
 
 use jollanqe::{Panel, Plane, read_capture};
 
-use crate::between::{judged, walked};
-use crate::{forecasts, sample};
+use crate::sample;
 
 /// Cuts `count` bytes off the front.
 fn cut<'a>(bytes: &mut &'a [u8], count: usize) -> &'a [u8] {
@@ -48,22 +47,4 @@ fn the_sample_is_what_the_library_answers() {
     while !rest.is_empty() {
         replay(&mut rest);
     }
-}
-
-#[test]
-fn between_frames_the_library_has_what_a_reset_leaves() {
-    let by_the_rust = judged(400, 1);
-    let by_the_walk = walked(20, 1);
-    for tally in [&by_the_rust, &by_the_walk] {
-        let first = tally.first.as_ref().map(|(words, _)| words);
-        assert_eq!((tally.different, first), (0, None));
-    }
-    assert!(by_the_rust.covers_all(), "{}", by_the_rust.report());
-}
-
-#[test]
-fn a_forecast_is_what_both_runs_leave() {
-    let tally = forecasts::ask(300, 1);
-    assert_eq!(tally.different, 0);
-    assert!(tally.covers_all(), "{tally}");
 }

@@ -56,33 +56,6 @@ struct Walked {
     numbers: Vec<u8>,
 }
 
-impl Walked {
-    /// Where states stand after the first so many frames, or after all.
-    fn after(&self, frames: Option<u64>, glass: Glass, states: &[i64]) -> Vec<i64> {
-        let mut drives: [Option<Vec<i128>>; TABLES] = Default::default();
-        let mut ends: HashMap<(u8, i64), i64> = HashMap::new();
-        let mut end = |number: u8, state: i64| {
-            let table = usize::from(number);
-            if table >= TABLES {
-                return state;
-            }
-            let drives = drives[table]
-                .get_or_insert_with(|| self.waveform.drives(table, self.rule, glass, frames));
-            *ends
-                .entry((number, state))
-                .or_insert_with(|| vcom::walk(drives, glass.swing, state))
-        };
-        let pixels = self.numbers.iter().zip(states);
-        pixels.map(|(&number, &state)| end(number, state)).collect()
-    }
-}
-
-/// The greys of states.
-fn drawn(states: &[i64], glass: Glass) -> Vec<u8> {
-    let grey = |&state: &i64| probe::gray(state, glass.swing);
-    states.iter().map(grey).collect()
-}
-
 /// Who judges the refresh that runs.
 enum Running {
     Nothing,
@@ -253,43 +226,27 @@ impl Chip {
         let frames = image
             .interrupted
             .then_some(elapsed / walked.waveform.period);
+        let mut drives: [Option<Vec<i128>>; TABLES] = Default::default();
+        let mut ends: HashMap<(u8, i64), i64> = HashMap::new();
         let own = self.own.as_mut().expect("a walk has states");
-        own.states = walked.after(frames, self.glass, &own.states);
+        for (state, &number) in own.states.iter_mut().zip(&walked.numbers) {
+            let table = usize::from(number);
+            if table >= TABLES {
+                continue;
+            }
+            let drives = drives[table].get_or_insert_with(|| {
+                let waveform = &walked.waveform;
+                waveform.drives(table, walked.rule, self.glass, frames)
+            });
+            *state = *ends
+                .entry((number, *state))
+                .or_insert_with(|| vcom::walk(drives, self.glass.swing, *state));
+        }
+        let grey = |&state: &i64| probe::gray(state, self.glass.swing);
         own.image = PanelImage {
-            pixels: drawn(&own.states, self.glass),
+            pixels: own.states.iter().map(grey).collect(),
             ..image
         };
-    }
-
-    /// The picture after so many frames of the refresh that runs (2026-11), where it is walked: which
-    /// frames a clock reaches has no part in it.
-    pub fn between(&self, frames: u64) -> Option<Vec<u8>> {
-        let (Running::Walked(walked), Some(own)) = (&self.running, &self.own) else {
-            return None;
-        };
-        let states = walked.after(Some(frames), self.glass, &own.states);
-        Some(drawn(&states, self.glass))
-    }
-
-    /// The generation of the picture that the refresh which runs will publish, if one runs.
-    pub fn publishes(&self) -> Option<u64> {
-        match self.running {
-            Running::Nothing => None,
-            _ => Some(self.generation + 1),
-        }
-    }
-
-    /// What the refresh that runs was begun with, and where the pixels stand.
-    pub(crate) fn noted(&self) -> Inside {
-        Inside {
-            states: self.states(),
-            ..inside::look(&self.published)
-        }
-    }
-
-    /// What the refresh that runs drives with.
-    pub(crate) fn waveform(&self) -> Waveform {
-        inside::waveform(&self.published)
     }
 
     pub fn rule(&self) -> Rule {

@@ -9,7 +9,6 @@ use chips::uc8253::Uc8253;
 use crate::vcom::{GROUPS, Group, TABLES, Waveform};
 
 /// A refresh as the chip noted it at its start, and the states there.
-#[derive(Debug, PartialEq, Eq)]
 pub struct Inside {
     pub waveform: Waveform,
     /// The table of each pixel, 1 to 4, or 255.
@@ -52,38 +51,26 @@ pub fn states(chip: &Uc8253) -> Vec<i64> {
 /// The bytes of a group as they are printed.
 const GROUP_NUMBERS: usize = 9;
 
-/// The waveform that a text prints, and what follows.
-fn printed(text: &str) -> (Waveform, &str) {
-    let (groups, rest) = between(text, "waveform: Waveform { groups: ", "levels: Levels { ");
+/// Of a chip on which a refresh runs.
+pub fn look(chip: &Uc8253) -> Inside {
+    let text = format!("{chip:?}");
+    let (groups, rest) = between(&text, "waveform: Waveform { groups: ", "levels: Levels { ");
     let (levels, rest) = rest.split_once("}, ").expect("the levels end");
     let (period, rest) = between(rest, "frame_ns: ", " }");
+    let (pixels, rest) = between(rest, "luts: [", "]");
+    let (states, _) = between(rest, "states: [", "]");
     let groups: Vec<u8> = numbers(groups);
     assert_eq!(groups.len(), TABLES * GROUPS * GROUP_NUMBERS);
     let groups: Vec<Group> = groups.chunks(GROUP_NUMBERS).map(group).collect();
     let levels: Vec<i64> = numbers(levels);
-    let waveform = Waveform {
-        tables: std::array::from_fn(|table| {
-            std::array::from_fn(|group| groups[table * GROUPS + group])
-        }),
-        levels: levels.try_into().expect("three levels"),
-        period: numbers(period)[0],
-    };
-    (waveform, rest)
-}
-
-/// What the refresh drives with that runs on a chip.
-pub fn waveform(chip: &Uc8253) -> Waveform {
-    printed(&format!("{chip:?}")).0
-}
-
-/// Of a chip on which a refresh runs.
-pub fn look(chip: &Uc8253) -> Inside {
-    let text = format!("{chip:?}");
-    let (waveform, rest) = printed(&text);
-    let (pixels, rest) = between(rest, "luts: [", "]");
-    let (states, _) = between(rest, "states: [", "]");
     Inside {
-        waveform,
+        waveform: Waveform {
+            tables: std::array::from_fn(|table| {
+                std::array::from_fn(|group| groups[table * GROUPS + group])
+            }),
+            levels: levels.try_into().expect("three levels"),
+            period: numbers(period)[0],
+        },
         numbers: numbers(pixels),
         states: numbers(states),
     }

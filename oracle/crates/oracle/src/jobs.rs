@@ -1,15 +1,12 @@
 //! `oracle jobs`: a batch for `jollanqe` and what it has to write.
 
-mod begun;
-mod foretold;
-
 use std::fs;
 use std::io;
 use std::path::Path;
 
-use crate::capture::{Capture, Configuration};
+use crate::capture::Configuration;
 use crate::script::{Script, example_panel};
-use crate::{between, cases, cuts, differ, forecast, picture, run, tops};
+use crate::{cases, cuts, differ, picture, run, tops};
 
 /// What a word writes for a capture: as the program, without 10.
 pub fn lines(file: &[u8]) -> String {
@@ -287,92 +284,6 @@ impl Batch {
             self.add(job, "");
         }
     }
-
-    fn add_still(&mut self, name: &str, frames: u64, form: &str) {
-        let file = self.file(name);
-        let output = match form {
-            " pgm" => between::pgm(file, frames),
-            _ => between::png(file, frames),
-        };
-        self.add(&format!("between {frames} {name}.capture{form}"), output);
-    }
-
-    fn add_film(&mut self, name: &str, step: Option<u64>) {
-        let output = between::lines(self.file(name), step);
-        let job = match step {
-            None => format!("film {name}.capture {name}-film"),
-            Some(step) => format!("film {name}.capture {name}-film-{step} {step}"),
-        };
-        self.add(&job, output);
-    }
-
-    /// The frames of the longest table in the refresh that a capture ends in.
-    fn longest(&self, name: &str) -> u64 {
-        let capture = Capture::read(self.file(name)).expect("it is accepted");
-        let refresh = between::Refresh::of(&capture);
-        refresh.expect("it ends in a refresh").longest
-    }
-
-    /// The glass between frames (2026-11).
-    fn add_begun(&mut self) {
-        for name in begun::STEPPED {
-            let longest = self.longest(name);
-            for frames in (0..=longest + 2).chain([u64::MAX]) {
-                self.add_still(name, frames, " pgm");
-            }
-            self.add_still(name, longest / 2, "");
-            self.add_still(name, longest, " png");
-            self.add_film(name, None);
-        }
-        for name in begun::LONG {
-            let longest = self.longest(name);
-            for frames in [0, 1, longest / 2, longest - 1, longest, longest + 2] {
-                self.add_still(name, frames, " pgm");
-            }
-            self.add_film(name, None);
-        }
-        for (frames, form) in [(0, " pgm"), (1, " pgm"), (1, "")] {
-            self.add_still("begun-large", frames, form);
-        }
-        let graymap = between::pgm(self.file("begun-upright"), 2);
-        self.add("between 0002 begun-upright.capture pgm", graymap);
-        for (name, step) in begun::STEPS {
-            self.add_film(name, Some(step));
-        }
-        for name in begun::OVER.into_iter().chain(begun::REFUSED) {
-            self.add_still(name, 0, " pgm");
-            self.add_still(name, 1, "");
-            self.add_film(name, None);
-        }
-        for job in begun::WORDS {
-            self.add(job, "");
-        }
-    }
-}
-
-impl Batch {
-    /// The lines that captures have in a forecast.
-    fn foretold(&self, names: &[&str]) -> String {
-        let line = |name: &&str| forecast::line(&format!("{name}.capture"), self.file(name));
-        names.iter().map(line).collect()
-    }
-
-    /// What captures will need (2026-04).
-    fn add_foretold(&mut self) {
-        for names in foretold::WEIGHED {
-            let words: Vec<String> = names.iter().map(|of| format!("{of}.capture")).collect();
-            self.add(
-                &format!("forecast {}", words.join(" ")),
-                self.foretold(names),
-            );
-        }
-        for (words, names) in foretold::MIXED {
-            self.add(&format!("forecast {words}"), self.foretold(names));
-        }
-        for job in foretold::WORDS {
-            self.add(job, "");
-        }
-    }
 }
 
 fn captures() -> Vec<(&'static str, Vec<u8>)> {
@@ -397,7 +308,6 @@ fn captures() -> Vec<(&'static str, Vec<u8>)> {
         let case = all.iter().find(|case| case.name == name);
         files.push((name, case.expect("a case of that name").file.clone()));
     }
-    files.extend(begun::captures(&all));
     files
 }
 
@@ -440,8 +350,6 @@ fn batch() -> Batch {
     }
     batch.add_ruled();
     batch.add_toned();
-    batch.add_begun();
-    batch.add_foretold();
     batch
 }
 

@@ -3,14 +3,12 @@
 
 pub mod against;
 pub mod answers;
-pub mod between;
 pub mod capture;
 pub mod cases;
 pub mod chip;
 pub mod clock;
 pub mod cuts;
 pub mod differ;
-pub mod forecast;
 pub mod generate;
 mod glass;
 mod inside;

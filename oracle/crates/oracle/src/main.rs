@@ -5,16 +5,14 @@ use std::path::Path;
 use std::process::ExitCode;
 
 use oracle::{
-    against::Comparison, answers, between, cases, cuts, differ, forecast, generate, jobs, list,
-    page, picture, replays, run, stats, tops, trace,
+    against::Comparison, answers, cases, cuts, differ, generate, jobs, list, page, picture,
+    replays, run, stats, tops, trace,
 };
 
 const USAGE: &str = "usage: oracle run | trace | list   (a capture on standard input)
        oracle lines | pgm [TOP] | png [TOP]   (the same, for a panel of any size)
        oracle cuts | pictures DIR   (the same)
-       oracle between COUNT [pgm | png] | film DIR [STEP]   (the same)
        oracle differ CAPTURE CAPTURE
-       oracle forecast CAPTURE..
        oracle page
        oracle make SEED
        oracle stats SEED N
@@ -55,13 +53,6 @@ fn short(word: &str) -> io::Result<u16> {
         .map_err(|error| io::Error::new(ErrorKind::InvalidInput, format!("{word}: {error}")))
 }
 
-fn positive(word: &str) -> io::Result<u64> {
-    match number(word)? {
-        0 => Err(io::Error::new(ErrorKind::InvalidInput, "0: 1 or more")),
-        number => Ok(number),
-    }
-}
-
 fn verdict(equal: bool) -> ExitCode {
     if equal {
         ExitCode::SUCCESS
@@ -86,24 +77,9 @@ fn obey(words: &[&str]) -> io::Result<ExitCode> {
             picture::write_all(&file, Path::new(directory))?;
             say(picture::heads(&file))?;
         }
-        ["between", count, "pgm"] => say(between::pgm(&input()?, number(count)?))?,
-        ["between", count] | ["between", count, "png"] => {
-            say(between::png(&input()?, number(count)?))?;
-        }
-        ["film", directory, step @ ..] if step.len() < 2 => {
-            let step = step.first().map(|step| positive(step)).transpose()?;
-            let file = input()?;
-            between::write_film(&file, Path::new(directory), step)?;
-            say(between::lines(&file, step))?;
-        }
         ["differ", a, b] => {
             let files = [std::fs::read(a)?, std::fs::read(b)?];
             say(differ::differ([a, b], [&files[0], &files[1]]))?;
-        }
-        ["forecast", names @ ..] if !names.is_empty() => {
-            for name in names {
-                say(forecast::line(name, &std::fs::read(name)?))?;
-            }
         }
         ["page"] => say(page::page())?,
         ["make", seed] => say(generate::make(number(seed)?))?,

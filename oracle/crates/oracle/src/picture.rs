@@ -29,7 +29,7 @@ pub fn pgm(file: &[u8]) -> Vec<u8> {
     last(file, graymap)
 }
 
-pub fn png_file(image: &PanelImage) -> Vec<u8> {
+fn png_file(image: &PanelImage) -> Vec<u8> {
     png::file(image.width, image.height, 8, &image.pixels)
 }
 

@@ -79,12 +79,9 @@ fn command(chip: &mut Chip, command: u8, data: &[u8]) {
     }
 }
 
-fn made(refresh: &Refresh) -> Chip {
-    run::make_any(&refresh.configuration).expect("the configuration is in range")
-}
-
 /// The chip with the refresh just begun, at 0.
-fn begun(mut chip: Chip, refresh: &Refresh) -> Chip {
+fn begun(refresh: &Refresh) -> Chip {
+    let mut chip = run::make_any(&refresh.configuration).expect("the configuration is in range");
     let [third, fourth, fifth] = refresh.levels;
     command(&mut chip, 0x00, &[0x3F]);
     command(&mut chip, 0x01, &[0x07, 0x17, third, fourth, fifth]);
@@ -171,24 +168,6 @@ pub fn both_ways(rng: &mut Rng, rule: Rule) -> [u8; 3] {
     ]
 }
 
-/// A refresh by a rule, walked, and cut: the grey that the walk has between its frames there, and the
-/// ones that the reset leaves by the walk and by the published chip, which has rule 1.
-#[cfg(test)]
-pub fn between(rng: &mut Rng, rule: Rule) -> [u8; 3] {
-    let mut refresh = draw(rng, true);
-    if rule == Rule::ByFrame {
-        refresh.configuration.flags |= VCOM_BY_FRAME;
-    }
-    let mut chip = begun(made(&refresh).walking_all(), &refresh);
-    let duration = chip.next_deadline().expect("the refresh runs").get();
-    let period = refresh.configuration.periods[0];
-    let elapsed = cut(rng, period, duration);
-    let seen = chip.between(elapsed / period).expect("it is walked");
-    met(&mut chip, elapsed, capture::RESET, 1);
-    let images = [chip.panel_image(), chip.published().panel_image()];
-    [seen[0], images[0].pixels[0], images[1].pixels[0]]
-}
-
 /// How a refresh ended: when reset cut it, if it did, its duration and the grey.
 struct Ended {
     cut: Option<u64>,
@@ -198,7 +177,7 @@ struct Ended {
 
 /// The refresh through the chip, whole or cut.
 fn ended(rng: &mut Rng, refresh: &Refresh) -> Ended {
-    let mut chip = begun(made(refresh), refresh);
+    let mut chip = begun(refresh);
     let duration = chip.next_deadline().expect("the refresh runs").get();
     let period = refresh.configuration.periods[0];
     let cut = rng.chance(60).then(|| cut(rng, period, duration));

@@ -1,7 +1,5 @@
 //! Tests: the papers' own examples, the capture format's ends, and the program's other parts.
 
-mod between;
-mod forecast;
 mod format;
 mod paper;
 mod program;

@@ -172,21 +172,6 @@ impl Waveform {
             .collect()
     }
 
-    /// The frames of a table.
-    pub fn frames(&self, table: usize) -> u64 {
-        let rounds = running(&self.tables[table]).map(|group| {
-            let round: u64 = group.frames.iter().map(|&frames| u64::from(frames)).sum();
-            round * u64::from(group.repeats)
-        });
-        rounds.sum()
-    }
-
-    /// The frames of the longest table, VCOM's included.
-    pub fn longest(&self) -> u64 {
-        let frames = |table| self.frames(table);
-        (0..TABLES).map(frames).max().unwrap_or(0)
-    }
-
     /// Where a table's groups and VCOM's run side by side they have the same counts and repeats:
     /// then a frame finds the same code by both rules.
     fn runs_with_vcom(&self, table: usize) -> bool {

@@ -88,7 +88,7 @@ fn begin(bench: &mut Bench, tables: &Tables) {
         }
     }
     bench.command(0x04, &[]);
-    bench.wait();
+    settle(bench);
     for command in [0x10, 0x13] {
         if bench.rng.chance(25) {
             bench.command(command, &[]);
@@ -97,6 +97,12 @@ fn begin(bench: &mut Bench, tables: &Tables) {
         }
     }
     bench.command(0x12, &[]);
+}
+
+fn settle(bench: &mut Bench) {
+    if let Some(end) = bench.deadline() {
+        bench.advance_to(end);
+    }
 }
 
 /// A refresh that a reset cuts, or follows, so many cycles after its start; none if that is more
@@ -109,7 +115,7 @@ fn cut_after(bench: &mut Bench, tables: &Tables, elapsed: u64) -> Option<()> {
     let within = bench.clock <= end.saturating_add(1);
     bench.assert_reset();
     bench.release_reset();
-    bench.wait();
+    settle(bench);
     within.then_some(())
 }
 
@@ -172,6 +178,6 @@ pub fn held(rng: Rng, host: &mut Host) -> Capture {
     }
     bench.assert_reset();
     bench.release_reset();
-    bench.wait();
+    settle(&mut bench);
     bench.capture()
 }

@@ -3,7 +3,7 @@
 
 mod boundaries;
 mod pages;
-pub mod panels;
+mod panels;
 
 use oracle::capture::Capture;
 use oracle::generate::bench::Bench;

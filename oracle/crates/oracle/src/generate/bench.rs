@@ -153,11 +153,6 @@ impl Bench {
         self.event(capture::RESET, 0);
     }
 
-    /// VCOM by the rule of this number.
-    pub fn rule(&mut self, number: u8) {
-        self.event(capture::VCOM_RULE, number);
-    }
-
     pub fn now(&self) -> u64 {
         self.now
     }
@@ -169,13 +164,6 @@ impl Bench {
     /// The period that the next refresh is believed to have.
     pub fn period(&self) -> u64 {
         self.configuration.periods[usize::from(self.pll & 0x1F)]
-    }
-
-    /// Lets a running operation end, at its end.
-    pub fn wait(&mut self) {
-        if let Some(end) = self.deadline() {
-            self.advance_to(end);
-        }
     }
 
     /// Lets a running operation end, in one of the ways a host may meet its end.

@@ -96,7 +96,7 @@ fn nothing_else_is_left_out() {
 }
 
 /// A file of one of the project's crates.
-pub fn crate_file(path: &str) -> Vec<u8> {
+fn crate_file(path: &str) -> Vec<u8> {
     let crates = std::path::Path::new(env!("CARGO_MANIFEST_DIR")).join("../../../crates");
     std::fs::read(crates.join(path)).expect("the file is stored")
 }

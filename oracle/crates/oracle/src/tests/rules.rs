@@ -34,21 +34,6 @@ fn the_judge_walks_what_was_loaded() {
     assert!(apart > 600, "{apart}");
 }
 
-/// Between frames (2026-11) the walk has what a reset there leaves, by rule 1 on the published chip too.
-#[test]
-fn between_frames_the_walk_is_what_a_reset_leaves() {
-    let mut rng = Rng::new(4);
-    let mut apart = 0;
-    for row in 0..1_000 {
-        let [seen, walked, published] = refreshes::between(&mut rng, Rule::ByPhase);
-        assert_eq!([seen, walked], [published; 2], "row {row}");
-        let [seen, walked, first] = refreshes::between(&mut rng, Rule::ByFrame);
-        assert_eq!(seen, walked, "row {row}");
-        apart += u64::from(walked != first);
-    }
-    assert!(apart > 100, "{apart}");
-}
-
 /// In whole captures of rule 1, with every refresh walked, each picture is the published chip's:
 /// numbers, states, cuts at any rate and earlier refreshes included.
 #[test]

@@ -1,3 +1,0 @@
-pub mod PanelLaws
-pub mod Tests
-pub mod Agreement
