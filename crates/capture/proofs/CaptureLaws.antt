@@ -12,7 +12,7 @@ use lib.Seq.{get_or-take}
 use borrow.Author.Tests.{ltb-false, eqb-true, eqb-false, le-ltb, eq-eqb, ne_eqb, not-false}
 use Rattle.base.proofs.Cases.{by_cases}
 use Rattle.config.specs.Refusal.{refusal}
-use Rattle.capture.specs.Layout.{kind_at, value_at, variant_at, flags_at, offset_of, count_of, rated, config_in, pixel_count}
+use Rattle.capture.specs.Layout.{kind_at, value_at, variant_at, offset_of, count_of, rated, config_in, pixel_count}
 use Rattle.capture.specs.Refused.{broken, bad_config, bad_event, file_refused, too_many, capture_refused, Taken}
 use Rattle.capture.specs.Reading.{events_end, events_of}
 use Rattle.capture.proofs.ListedLaws.{each_listed, listed_all}

@@ -17,8 +17,8 @@ use Rattle.config.specs.Refusal.{refusal, empty_panel, oversized_panel, swing_re
 use Rattle.capture.specs.Little.{little}
 use Rattle.capture.specs.Layout.{kind_at, value_at, config_by, config_in, offset_of, count_of}
 use Rattle.capture.specs.Refused.{broken, listed, file_refused, capture_refused}
-use Rattle.capture.proofs.Placed.{byte_behind, little_behind}
-use Rattle.capture.proofs.RateLaws.{parts_length, parts_offset, parts_byte, plain_config, rated_config}
+use Rattle.capture.proofs.Placed.{little_behind}
+use Rattle.capture.proofs.RateLaws.{parts_offset, parts_byte, plain_config, rated_config}
 use Rattle.capture.proofs.CaptureLaws.{takes, program_takes, broken_refused}
 
 -- ---- the files

@@ -54,7 +54,7 @@ const POSITIVE_DRIVES_BLACK: u8 = 4;
 const VCOM_BY_FRAME: u8 = 8;
 
 // The trailer: the offset of the configuration, and how many events there are.
-#[derive(Drop)]
+#[derive(Clone, Copy)]
 pub(crate) struct Trailer {
     pub offset: u64,
     pub count: u64,

@@ -8,7 +8,7 @@ use Rattle.base.proofs.Cases.{both}
 use Rattle.command.specs.declared.kinds.Kind.{Kind}
 use Rattle.command.specs.declared.kinds.Kind.TheVariants as kind
 use Rattle.command.specs.declared.kinds.Params.{Params}
-use Rattle.log.specs.declared.Log.{Log}
+use Rattle.diagnostic_log.specs.declared.Log.{Log}
 use Rattle.controller.specs.declared.Active.{Active}
 use Rattle.controller.specs.declared.Current.{Current}
 use Rattle.controller.specs.declared.Current.TheVariants as current

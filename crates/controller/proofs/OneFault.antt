@@ -19,8 +19,8 @@ use Rattle.command.specs.declared.kinds.Kind.TheVariants as kind
 use Rattle.command.specs.declared.kinds.Params.TheVariants as params
 use Rattle.command.specs.Kinds.{kind_of}
 use Rattle.diagnostic.specs.declared.DiagnosticKind.TheVariants.{MissingData, ExtraData, LutLength}
-use Rattle.log.specs.Log.{reported, Report, all_reported, rows_after_all}
-use Rattle.log.specs.Log as log
+use Rattle.diagnostic_log.specs.Log.{reported, Report, all_reported, rows_after_all}
+use Rattle.diagnostic_log.specs.Log as log
 use Rattle.controller.specs.declared.Active.{Active}
 use Rattle.controller.specs.declared.Current.{Current}
 use Rattle.controller.specs.declared.Current.TheVariants as current

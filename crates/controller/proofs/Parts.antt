@@ -20,9 +20,9 @@ use Rattle.registers.specs.declared.luts.Luts.{Luts}
 use Rattle.registers.specs.Range.{InRam, InRange}
 use Rattle.waveform.specs.declared.Levels.{Levels}
 use Rattle.glass.specs.declared.PanelImage.{PanelImage}
-use Rattle.log.specs.declared.Log.{Log}
-use Rattle.log.specs.Log.{reported}
-use Rattle.log.proofs.LogLaws.{reported_room, reported_full, rows_length}
+use Rattle.diagnostic_log.specs.declared.Log.{Log}
+use Rattle.diagnostic_log.specs.Log.{reported}
+use Rattle.diagnostic_log.proofs.LogLaws.{reported_room, reported_full, rows_length}
 use Rattle.controller.specs.declared.Mode.{Mode}
 use Rattle.controller.specs.declared.Work.{Work}
 use Rattle.controller.specs.declared.Work.TheVariants as work

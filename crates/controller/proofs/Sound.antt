@@ -28,7 +28,7 @@ use Rattle.command.specs.declared.kinds.Kind.{Kind}
 use Rattle.command.specs.declared.kinds.Kind.TheVariants as kind
 use Rattle.command.specs.Kinds.{kind_of}
 use Rattle.glass.specs.Gray.{level_of}
-use Rattle.log.specs.Log.{log_emptied}
+use Rattle.diagnostic_log.specs.Log.{log_emptied}
 use Rattle.pixels.specs.States.{every_state}
 use Rattle.pixels.proofs.StateLaws.{states_replicate, level_within}
 use Rattle.controller.specs.declared.Power.{Power}

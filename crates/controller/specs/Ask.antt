@@ -4,7 +4,7 @@
 use Rattle.std.specs.Prelude.{Bool, true, false, List, ℕ, ◌<◌, max, eqb, length}
 use Rattle.base.specs.Pick.{pick}
 use Rattle.ram.specs.declared.Found.{Found}
-use Rattle.log.specs.Log.{log_emptied}
+use Rattle.diagnostic_log.specs.Log.{log_emptied}
 use Rattle.controller.specs.declared.Due.{Due}
 use Rattle.controller.specs.declared.drives.Drive.{Drive}
 use Rattle.controller.specs.declared.drives.Drive.TheVariants as drive

@@ -5,7 +5,7 @@ use Rattle.glass.specs.declared.PanelImage.{PanelImage}
 use Rattle.registers.specs.declared.Registers.{Registers}
 use Rattle.registers.specs.declared.luts.Luts.{Luts}
 use Rattle.waveform.specs.declared.Waveform.{Waveform}
-use Rattle.log.specs.declared.Log.{Log}
+use Rattle.diagnostic_log.specs.declared.Log.{Log}
 use Rattle.controller.specs.declared.Power.{Power}
 use Rattle.controller.specs.declared.Mode.{Mode}
 use Rattle.controller.specs.declared.Current.{Current}

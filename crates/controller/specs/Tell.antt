@@ -1,7 +1,7 @@
 -- Document 01, "A call arrives": a diagnostic is stored, or dropped. A call tells at most two, and both carry the clock.
 use Rattle.std.specs.Prelude.{List, ℕ}
-use Rattle.log.specs.declared.Log.{Log}
-use Rattle.log.specs.Log.{reported, rows_after}
+use Rattle.diagnostic_log.specs.declared.Log.{Log}
+use Rattle.diagnostic_log.specs.Log.{reported, rows_after}
 use Rattle.controller.specs.declared.notes.Note.{Note}
 use Rattle.controller.specs.declared.notes.Note.TheVariants.{Quiet, Told}
 use Rattle.controller.specs.declared.notes.Notes.{Notes}

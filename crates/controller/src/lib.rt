@@ -15,7 +15,7 @@ use command::Kind;
 use config::Uc8253Config;
 pub use drives::Drive;
 use glass::{PanelImage, RefreshKind};
-use log::Log;
+use diagnostic_log::Log;
 pub use notes::{Note, Notes};
 use ram::Cursor;
 pub use reads::Read;

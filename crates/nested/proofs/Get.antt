@@ -37,6 +37,8 @@ abbrev pub reading : Ty → Ty → ℕ → Fn
 reading τ σ k = record {
   lifetimes = 0;
   outlives = [];
+  ty_params = [];
+  givens = 0;
   params = 1;
   locals = local τ value_local ∷ local σ value_local ∷ [];
   body = seq (assign (place 0 []) (rv_opd (copy (place 1 (field k ∷ []))))) return;

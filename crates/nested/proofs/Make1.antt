@@ -33,6 +33,8 @@ abbrev pub making : Ty → Ty → Fn
 making σ τ = record {
   lifetimes = 0;
   outlives = [];
+  ty_params = [];
+  givens = 0;
   params = 1;
   locals = local σ value_local ∷ local τ value_local ∷ [];
   body = seq (assign (place 0 []) (aggregate (copy (place 1 []) ∷ []))) return;

@@ -33,6 +33,8 @@ abbrev pub making : Ty → Ty → Ty → Ty → Ty → Fn
 making σ τ₁ τ₂ τ₃ τ₄ = record {
   lifetimes = 0;
   outlives = [];
+  ty_params = [];
+  givens = 0;
   params = 4;
   locals = local σ value_local ∷ local τ₁ value_local ∷ local τ₂ value_local ∷ local τ₃ value_local ∷ local τ₄ value_local ∷ [];
   body =

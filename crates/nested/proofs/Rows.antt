@@ -109,7 +109,7 @@ module _ (E : Element) (m n : ℕ) where
   abbrev within : Nested.Denot → Held.row.Denot
   within = map (map E.into)
 
-  nested_same : (x : Nested.Denot) (vs : List Val) → Nested.own x vs ≡ Held.row.own_val (within x) vs
+  nested_same : (x : Nested.Denot) (vs : List Val) → Nested.own_val x vs ≡ Held.row.own_val (within x) vs
   nested_same =
       array_same _ _ (map E.into) (Array E.own_row m).own_val (Array E.field.row m).own_val
       (array_same _ _ E.into E.own_row.own_val E.field.row.own_val E.same m) n
@@ -126,7 +126,7 @@ module _ (E : Element) (m n : ℕ) where
     tells = λ x vs is. law.tells (within x) vs (into_field x vs is);
     typed = λ 𝓛 x u is. ((law.lawful 𝓛).typed (within x) (u ∷ []) (into_field x (u ∷ []) is)).0;
     makes =
-        λ 𝓛 x vs is. makes_shadow 𝓛 (Nested.own x vs)
+        λ 𝓛 x vs is. makes_shadow 𝓛 (Nested.own_val x vs)
         (subst Pure (sym (nested_same x vs))
         (array_plain (array_field E.field m) (array_plain E.field E.plain m) n (within x) vs)) is;
     still = λ i. each_of (each_of (E.still i));

@@ -1,12 +1,10 @@
 -- The definition on small cases, computed: document 01's own example, reads, a refusal and a graymap.
 use mathlib.Core.Path.{◌≡◌, refl}
-use mathlib.Core.Bool.{true, false}
+use mathlib.Core.Bool.{false}
 use mathlib.Core.List.{List, [], ◌∷◌, ◌++◌}
 use Prim.Native.Nat.{ℕ}
 use lib.ListN.{replicate}
-use Rattle.glass.specs.declared.PanelImage.{PanelImage}
 use Rattle.glass.specs.declared.RefreshKind.TheVariants.{PowerOn, Full}
-use Rattle.log.specs.declared.Log.{Log}
 use Rattle.text.specs.Text.{ascii, digits}
 use Rattle.outcome.specs.declared.Came.TheVariants as came
 use Rattle.output.specs.declared.Form.TheVariants as form

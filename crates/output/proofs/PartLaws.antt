@@ -2,7 +2,7 @@
 -- it did; parts one after the other are the whole text.
 use mathlib.Core.Path.{◌≡◌, refl, sym, ap, ◌∙◌}
 use mathlib.Core.List.{List, [], ◌∷◌, ◌++◌, append-nil, append_assoc}
-use Prim.Native.Nat.{ℕ, zero, suc, ◌+◌, ◌-◌, ◌≤◌, ◌<◌, min}
+use Prim.Native.Nat.{ℕ, zero, suc, ◌+◌, ◌-◌, ◌≤◌, ◌<◌}
 use native.Mathlib.Nat.{sub_self, sub-zero, zero-add, add-zero, add-sub_cancel_left}
 use native.Mathlib.Decide.{dec_le}
 use native.Mathlib.Numerals.{add-one}
@@ -12,7 +12,7 @@ use lib.ListN.{length, take, drop, get_or, length-append, length-drop, take-appe
 use lib.Seq.{take-suc, take_all, drop-cons, get_or-drop, drop-drop}
 use borrow.Author.Tests.{lt-ltb, le-ltb, ltb-true}
 use Rattle.base.proofs.Cases.{by_cases}
-use Rattle.text.specs.Text.{filled, laid, Puts}
+use Rattle.text.specs.Text.{filled, Puts}
 use Rattle.text.proofs.Filling.{length_filled, filled_full, take_filled, puts_nothing, puts_then, puts_as, puts_filled, length_puts}
 use Rattle.output.specs.declared.Part.{Part}
 use Rattle.output.specs.Parts.{joined, reach, units_from, part_of, Lays}

@@ -12,7 +12,7 @@ use Rattle.text.specs.Text.{filled, Puts}
 use Rattle.text.proofs.Filling.{puts_filled, puts_as, take_filled}
 use Rattle.png.specs.Png.{png_of}
 use Rattle.glass.specs.declared.PanelImage.{PanelImage}
-use Rattle.output.specs.Units.{up_to, row_of, rows_of, sample_of, samples_of, wide_rows, graymap_units, graymap_of, graymap_at, png_units, png_at}
+use Rattle.output.specs.Units.{row_of, rows_of, sample_of, samples_of, wide_rows, graymap_units, graymap_of, graymap_at, png_units, png_at}
 use Rattle.output.proofs.UnitLaws.{up_to_same, row_below}
 
 samples_suc : (top : ℕ) (xs : List ℕ) (k : ℕ) → k < length xs

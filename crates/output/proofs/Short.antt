@@ -1,31 +1,29 @@
 -- Every unit of a panel of at most 800 columns, at any top, is shorter than a buffer of 8,192 bytes, so parts through such a buffer are the whole text.
-use mathlib.Core.Path.{◌≡◌, refl, sym, ap, ◌∙◌}
+use mathlib.Core.Path.{◌≡◌, refl, ap}
 use mathlib.Core.Bool.{Bool, true, false}
 use mathlib.Core.List.{List, [], ◌∷◌, ◌++◌, map}
-use Prim.Native.Nat.{ℕ, zero, suc, ◌+◌, ◌-◌, ◌*◌, ◌/◌, ◌^◌, ◌≤◌, ◌<◌}
+use Prim.Native.Nat.{ℕ, zero, suc, ◌+◌, ◌*◌, ◌/◌, ◌^◌, ◌≤◌, ◌<◌}
 use native.Mathlib.Nat.{zero-mul, suc-mul, pow-zero, pow-succ'}
 use native.Mathlib.Omega.{arith}
-use native.Mathlib.Decide.{dec_le, ℕ_discrete}
+use native.Mathlib.Decide.{dec_le}
 use lib.Dec.{eqb, lit<}
-use lib.ListN.{length, get_or, take, drop, length-append, length-take, length-map}
+use lib.ListN.{length, get_or, drop, length-append, length-take, length-map}
 use Rattle.base.specs.Pick.{pick}
 use Rattle.base.proofs.Cases.{both}
-use Rattle.glass.specs.declared.PanelImage.{PanelImage}
 use Rattle.glass.specs.declared.RefreshKind.{RefreshKind}
 use Rattle.glass.specs.declared.RefreshKind.TheVariants.{PowerOn, Full, Partial}
-use Rattle.log.specs.declared.Log.{Log}
 use Rattle.capture.specs.Little.{little}
 use Rattle.text.specs.Text.{ascii, digits}
 use Rattle.text.proofs.Digits.{length_digits}
 use Rattle.png.specs.declared.Adler.{Adler}
 use Rattle.png.specs.Zlib.{four, adler_number, stored_head, stored, none, zlib_head, adler_of}
-use Rattle.png.specs.Png.{chunk, signature, header, head_unit, piece, row_unit, row_units, end_unit, png_of}
+use Rattle.png.specs.Png.{chunk, signature, head_unit, piece, row_unit, row_units, end_unit, png_of}
 use Rattle.outcome.specs.declared.Came.{Came}
 use Rattle.outcome.specs.declared.Came.TheVariants as came
 use Rattle.output.specs.declared.Form.{Form}
 use Rattle.output.specs.declared.Form.TheVariants as form
 use Rattle.output.specs.declared.Outcome.{Outcome}
-use Rattle.output.specs.Lines.{behind, spaced, line, byte_word, kind_word, flag_word, refresh_words}
+use Rattle.output.specs.Lines.{behind, line, byte_word, kind_word, flag_word, refresh_words}
 use Rattle.output.specs.Lines.{no_events_line, refused_line, read_line, diag_line, dropped_line, image_line, greys_line, graymap_head}
 use Rattle.output.specs.Units.{up_to, row_of, read_of, last_of, lines_of, rows_of, png_units, played_of, units_by, units_of}
 use Rattle.output.specs.Units.{wide_rows, graymap_units, depth_of, wide_by, wide_of}

@@ -17,7 +17,7 @@ use Rattle.png.specs.Png.{row_unit, end_unit, png_of}
 use Rattle.png.proofs.UnitLaws.{length_png}
 use Rattle.png.proofs.UnitLaws as png
 use Rattle.glass.specs.declared.PanelImage.{PanelImage}
-use Rattle.log.specs.declared.Log.{Log}
+use Rattle.diagnostic_log.specs.declared.Log.{Log}
 use Rattle.capture.specs.Little.{little}
 use Rattle.outcome.specs.declared.Came.{Came}
 use Rattle.outcome.specs.declared.Came.TheVariants as came

@@ -19,8 +19,8 @@ ghost use Rattle.output.specs.Units.{played_of, units_of};
 ghost use Rattle.output.specs.InnerCount.{played_count};
 ghost use Rattle.output.specs.Parts.{Lays};
 
+use diagnostic_log::Log;
 use glass::PanelImage;
-use log::Log;
 pub use outcome::Came;
 use text::put;
 pub use wide::{wide_count, wide_part};

@@ -6,8 +6,8 @@ ghost use Rattle.output.specs.Units.{read_of, last_of, lines_of};
 
 use crate::parts::{greys_of, numbers_of};
 use capture::{EVENT_BYTES, NO_READ, NOTHING, little};
+use diagnostic_log::Log;
 use glass::{PanelImage, RefreshKind};
-use log::Log;
 use text::{byte, decimal, number, put};
 
 // A refusal, by its number.

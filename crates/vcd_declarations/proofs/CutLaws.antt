@@ -1,19 +1,18 @@
 -- The words from a place on, cut into declarations: none begins there, or one does, with its end or without.
 use mathlib.Core.Path.{◌≡◌, refl, sym, ap, ◌∙◌}
-use mathlib.Core.Bool.{Bool, true, false, false≢true}
+use mathlib.Core.Bool.{true, false, false≢true}
 use mathlib.Core.List.{List, [], ◌∷◌}
 use Prim.Native.Nat.{ℕ, ◌-◌, ◌≤◌, ◌<◌}
 use native.Mathlib.Omega.{arith}
 use native.Mathlib.Decide.{dec_le}
 use borrow.Author.Tests.{lt-ltb, le-ltb}
-use lib.Dec.{ltb}
-use lib.ListN.{length, take, drop, drop_of_length-le}
+use lib.ListN.{take, drop}
 use Rattle.base.specs.Pick.{pick}
 use Rattle.vcd_words.specs.Words.{words, closed, opened}
 use Rattle.vcd_words.specs.Places.{part}
 use Rattle.vcd_words.specs.declared.Span.{Span}
 use Rattle.vcd_words.proofs.SpanLaws.{Next}
-use Rattle.vcd_declarations.specs.Declarations.{Cut, keyword_of, begins, is_last, one_more, cut_from, cut}
+use Rattle.vcd_declarations.specs.Declarations.{Cut, keyword_of, begins, is_last, one_more, cut}
 use Rattle.vcd_declarations.specs.InnerEnd.{has_end, before, past, EndAt}
 use Rattle.vcd_declarations.proofs.EndLaws.{cut_end, cut_open}
 

@@ -15,7 +15,7 @@ use Rattle.vcd_words.specs.Places.{front, is_solid, part}
 use Rattle.vcd_words.specs.declared.Span.{Span}
 use Rattle.vcd_words.proofs.Cutting.{words_join}
 use Rattle.vcd_words.proofs.SpanLaws.{Next}
-use Rattle.vcd_declarations.specs.Declarations.{Cut, keyword_of, is_last, is_end, one_more, cut_from}
+use Rattle.vcd_declarations.specs.Declarations.{keyword_of, is_last, is_end, one_more, cut_from}
 use Rattle.vcd_declarations.specs.InnerEnd.{has_end, before, past, EndAt}
 
 -- ---- words without an `$end`, and then others

@@ -1,22 +1,19 @@
 -- The declarations one after the other: what was told so far, and then those from a place on, are all of them.
 use mathlib.Core.Path.{◌≡◌, refl, sym, ap, ◌∙◌}
-use mathlib.Core.Bool.{Bool, true, false, false≢true}
+use mathlib.Core.Bool.{Bool, true, false}
 use mathlib.Core.List.{List, [], ◌∷◌}
-use Prim.Native.Nat.{ℕ, ◌-◌, ◌≤◌, ◌<◌}
+use Prim.Native.Nat.{ℕ, ◌≤◌, ◌<◌}
 use native.Mathlib.Omega.{arith}
-use lib.ListN.{length, take, drop, drop_of_length-le}
-use Rattle.base.specs.Pick.{pick}
+use lib.ListN.{length, drop, drop_of_length-le}
 use Rattle.base.proofs.Cases.{by_cases}
 use Rattle.vcd_words.specs.Words.{words, closed, opened, among}
 use Rattle.vcd_words.specs.Places.{part}
 use Rattle.vcd_words.specs.declared.Span.{Span}
 use Rattle.vcd_words.proofs.SpanLaws.{Next}
 use Rattle.vcd_declarations.specs.declared.head.Head as place
-use Rattle.vcd_declarations.specs.declared.head.Begun.{Begun}
-use Rattle.vcd_declarations.specs.declared.commands.Keyword.{Keyword}
-use Rattle.vcd_declarations.specs.Declarations.{Head, Cut, keyword_of, begins, is_last, one_more, cut_from, cut, blank, declares_by, declares, declared_from, head_of}
+use Rattle.vcd_declarations.specs.Declarations.{Head, Cut, keyword_of, begins, is_last, one_more, cut, blank, declares_by, declares, declared_from, head_of}
 use Rattle.vcd_declarations.specs.Begun.{all_by, Begins}
-use Rattle.vcd_declarations.specs.InnerEnd.{has_end, before, past, EndAt}
+use Rattle.vcd_declarations.specs.InnerEnd.{EndAt}
 use Rattle.vcd_declarations.specs.InnerHead.{Tells, blank_head}
 use Rattle.vcd_declarations.proofs.HeadLaws.{blank_tells}
 use Rattle.vcd_declarations.proofs.CutLaws.{over, cut_none, none_here, half_here, one_here}

@@ -4,19 +4,19 @@ use mathlib.Core.Bool.{Bool, true, false, ◌||◌, not}
 use mathlib.Core.List.{List, [], ◌∷◌, ◌++◌}
 use Prim.Native.Nat.{ℕ, zero, suc, ◌+◌, ◌-◌, ◌≤◌, ◌<◌}
 use native.Mathlib.Omega.{arith}
-use borrow.Author.Tests.{eq-eqb, ne_eqb, lt-ltb, le-ltb, eqb-true, eqb-false}
-use lib.Dec.{eqb, ltb}
+use borrow.Author.Tests.{eq-eqb, ne_eqb, eqb-true, eqb-false}
+use lib.Dec.{eqb}
 use lib.ListN.{length, get_or, set, take, drop, length-take, length-drop}
 use lib.Seq.{take-take, drop-drop}
 use Rattle.base.specs.Pick.{pick}
 use Rattle.base.proofs.Cases.{by_cases}
-use Rattle.vcd_words.specs.Words.{alike, among, words}
+use Rattle.vcd_words.specs.Words.{alike, among}
 use Rattle.vcd_words.specs.Places.{part}
 use Rattle.vcd_words.specs.declared.Span.{Span}
 use Rattle.vcd_declarations.specs.declared.codes.Codes.{Codes}
 use Rattle.vcd_declarations.specs.declared.codes.Further.{Further}
 use Rattle.vcd_declarations.specs.declared.head.Head as place
-use Rattle.vcd_declarations.specs.Codes.{code_in, five_in, further_in, placed_in, Within, AllWithin, FurtherWithin}
+use Rattle.vcd_declarations.specs.Codes.{code_in, five_in, placed_in, Within, AllWithin, FurtherWithin}
 use Rattle.vcd_declarations.specs.Declarations.{Head, blank, holding, scale, declare, is_nano}
 use Rattle.vcd_declarations.specs.InnerHead.{Tells, nowhere, blank_head, holding_head, scale_head, place_of, with_place, moved, shifted, added, declare_head}
 use Rattle.vcd_declarations.proofs.PlacedLaws.{or_none, not_none, alike_is, put_in, put_before, none_last}

@@ -4,18 +4,18 @@ use mathlib.Core.Bool.{Bool, true, false}
 use mathlib.Core.List.{List, [], ◌∷◌}
 use Prim.Native.Nat.{ℕ, ◌≤◌, ◌<◌}
 use native.Mathlib.Omega.{arith}
-use lib.Dec.{eqb, ltb}
+use lib.Dec.{ltb}
 use lib.ListN.{length, drop, drop_of_length-le}
 use Rattle.base.specs.Pick.{pick}
 use Rattle.base.proofs.Cases.{by_cases}
-use Rattle.vcd_words.specs.Words.{words, closed, opened, alike, among}
+use Rattle.vcd_words.specs.Words.{words, closed, opened, among}
 use Rattle.vcd_words.specs.Places.{part}
 use Rattle.vcd_words.specs.declared.Span.{Span}
 use Rattle.vcd_words.proofs.SpanLaws.{Next}
 use Rattle.vcd_values.specs.Names.{other_signal}
 use Rattle.vcd_declarations.specs.declared.commands.Keyword.{Keyword}
 use Rattle.vcd_declarations.specs.declared.commands.Keyword.TheVariants as key
-use Rattle.vcd_declarations.specs.Declarations.{Head, Cut, keyword_of, begins, is_last, one_more, cut, blank, signal_in, code_of, variable, declares_by, declares, declared_from, head_of}
+use Rattle.vcd_declarations.specs.Declarations.{Head, Cut, keyword_of, begins, is_last, cut, blank, signal_in, variable, declares_by, declares, declared_from, head_of}
 use Rattle.vcd_declarations.specs.InnerDeclared.{declares_code}
 use Rattle.vcd_declarations.specs.InnerEnd.{EndAt}
 use Rattle.vcd_declarations.proofs.CutLaws.{over, cut_none, none_here, half_here, one_here}

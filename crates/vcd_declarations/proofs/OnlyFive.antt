@@ -1,20 +1,19 @@
 -- Where none of the five was declared twice or wide, every code of one of them is a first one.
-use mathlib.Core.Path.{◌≡◌, refl, sym, ap, ◌∙◌}
-use mathlib.Core.Bool.{Bool, true, false, ◌||◌, not}
+use mathlib.Core.Path.{◌≡◌, refl, ◌∙◌}
+use mathlib.Core.Bool.{Bool, false, ◌||◌, not}
 use mathlib.Core.List.{List, [], ◌∷◌}
-use Prim.Native.Nat.{ℕ, zero, suc, ◌<◌}
+use Prim.Native.Nat.{ℕ, ◌<◌}
 use native.Mathlib.Omega.{arith}
 use borrow.Author.Tests.{ltb-true}
-use lib.Dec.{eqb, ltb}
-use lib.ListN.{length, get_or, set, length-set}
-use Rattle.base.specs.Pick.{pick}
+use lib.Dec.{ltb}
+use lib.ListN.{length, get_or, length-set}
 use Rattle.base.proofs.Cases.{by_cases}
 use Rattle.vcd_words.specs.Words.{alike, among}
-use Rattle.vcd_values.specs.Names.{other_signal, no_name}
+use Rattle.vcd_values.specs.Names.{other_signal}
 use Rattle.vcd_declarations.specs.declared.commands.Keyword.{Keyword}
 use Rattle.vcd_declarations.specs.declared.commands.Keyword.TheVariants as key
 use Rattle.vcd_declarations.proofs.PlacedLaws.{put_in, or_none, not_none}
-use Rattle.vcd_declarations.specs.Declarations.{Head, cut, keyword_of, blank, declare, named, signal_in, wide_in, code_of, variable, declares_by, declares, declared_from, head_of}
+use Rattle.vcd_declarations.specs.Declarations.{Head, cut, keyword_of, blank, declare, signal_in, wide_in, code_of, variable, declares_by, declares, declared_from, head_of}
 
 pub record Only (h : Head) : Type 0 where
   pub five : length h.codes ≡ 5

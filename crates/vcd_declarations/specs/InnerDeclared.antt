@@ -1,5 +1,5 @@
 -- Whether a declaration is one of the five signals with a code.
-use Rattle.std.specs.Prelude.{Bool, true, false, List, ℕ, ltb}
+use Rattle.std.specs.Prelude.{Bool, false, List, ℕ, ltb}
 use Rattle.base.specs.Pick.{pick}
 use Rattle.vcd_words.specs.Words.{alike}
 use Rattle.vcd_values.specs.Names.{other_signal}

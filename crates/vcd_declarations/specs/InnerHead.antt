@@ -7,7 +7,6 @@ use Rattle.vcd_words.specs.declared.Span.{Span}
 use Rattle.vcd_declarations.specs.declared.codes.Codes.{Codes}
 use Rattle.vcd_declarations.specs.declared.codes.Further.{Further}
 use Rattle.vcd_declarations.specs.declared.head.Head as place
-use Rattle.vcd_declarations.specs.declared.variable.Variable.{Variable}
 use Rattle.vcd_declarations.specs.Codes.{five_in, placed_in, AllWithin, FurtherWithin}
 use Rattle.vcd_declarations.specs.Declarations.{Head}
 

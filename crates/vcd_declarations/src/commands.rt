@@ -5,7 +5,7 @@ ghost use Rattle.vcd_declarations.specs.Declarations as rule;
 
 use vcd_words::{is_one_of, next_word, printable, same};
 
-#[derive(Drop)]
+#[derive(Clone, Copy)]
 pub(crate) enum Keyword {
     // `$comment`, `$date`, `$version`
     Text,

@@ -11,7 +11,7 @@ use vcd_words::{Span, is_one_of, next_word, printable};
 
 // Which of the five signals a variable is, or another, or none where it is broken; whether it is
 // wider than a bit; where its code lies.
-#[derive(Drop)]
+#[derive(Clone, Copy)]
 pub(crate) struct Variable {
     pub(crate) signal: u8,
     pub(crate) wide: bool,

@@ -10,7 +10,7 @@ use vcd_words::is_blank;
 
 // What is read so far: nothing; the [ and then, of the first index, nothing, its minus or digits; the
 // same behind the colon; all; or what is no select, whatever follows.
-#[derive(Drop)]
+#[derive(Clone, Copy)]
 pub(crate) enum State {
     Before,
     First,

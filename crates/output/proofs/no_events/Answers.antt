@@ -1,0 +1,14 @@
+-- `output::no_events` meets its contract: there is one unit.
+use Rattle.output.proofs.UnitLaws.{only_first, only_past}
+use Rattle.text.proofs.Filling.{puts_as}
+use Rattle.output.specs.Lines.{no_events_line}
+use Rattle.output.proofs.no_events.Goals as goal
+
+pub returns-then-i-eq0 : goal.returns-then-i-eq0
+unfolding no_events_line
+returns-then-i-eq0 c =
+    puts_as c.put.ensures (only_first _ c.args.i c.if-i-eq0.true)
+
+pub returns : goal.returns
+returns c =
+    puts_as c.put-2.ensures (only_past _ c.args.i c.if-i-eq0.false)

@@ -1,0 +1,15 @@
+-- `ram::copy_bytes` meets its contract. The loop's invariant: the bytes passed are copied; the measure is what is left of them.
+use mathlib.Core.Path.{◌≡◌, refl, ap, ◌∙◌}
+use Prim.Native.Nat.{◌+◌, ◌-◌, ◌≤◌}
+use native.Mathlib.Omega.{arith}
+use borrow.Author.Rules.{rules}
+use lib.ListN.{length, get_or, set, length-set}
+use Rattle.base.proofs.Turns.{turns_more}
+use Rattle.ram.specs.InnerBytewise.{copied_bytes}
+use Rattle.ram.proofs.copy_bytes.Given as goal
+
+abbrev pub invariant-loop-i : goal.invariant-loop-i
+invariant-loop-i l = (l.old ≡ copied_bytes l.initial.old l.new l.at l.i) × (l.i ≤ l.n) × (length l.old ≡ length l.initial.old)
+
+abbrev pub decreases-loop-i : goal.decreases-loop-i
+decreases-loop-i l = l.n - l.i

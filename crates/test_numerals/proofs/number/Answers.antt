@@ -1,0 +1,6 @@
+-- `test_numerals::number` meets its contract: the digits from where the skipped bytes end.
+use borrow.Author.Rules.{rules}
+use Rattle.test_numerals.proofs.number.Goals as goal
+
+pub returns : goal.returns
+returns c = cc

@@ -1,0 +1,47 @@
+-- `vcd_declarations::codes::is_first` meets its contract: the five in turn.
+use mathlib.Core.Path.{◌≡◌, refl, sym, ◌∙◌}
+use mathlib.Core.Bool.{Bool, true, false}
+use Rattle.base.specs.Pick.{pick}
+use Rattle.vcd_declarations.proofs.codes.is_first.Goals as goal
+
+-- the last of them
+last : (t : Bool) → t ≡ pick t true false
+last true = refl
+last false = refl
+
+pub returns-then-is_code : goal.returns-then-is_code
+returns-then-is_code c =
+    rw (sym c.is_code.ensures ∙ c.if-is_code.true)
+
+pub returns-then-is_code-2 : goal.returns-then-is_code-2
+returns-then-is_code-2 c =
+    rw (
+      sym c.is_code.ensures ∙ c.if-is_code.false,
+      sym c.is_code-2.ensures ∙ c.if-is_code-2.true,
+    )
+
+pub returns-then-is_code-3 : goal.returns-then-is_code-3
+returns-then-is_code-3 c =
+    rw (
+      sym c.is_code.ensures ∙ c.if-is_code.false,
+      sym c.is_code-2.ensures ∙ c.if-is_code-2.false,
+      sym c.is_code-3.ensures ∙ c.if-is_code-3.true,
+    )
+
+pub returns-then-is_code-4 : goal.returns-then-is_code-4
+returns-then-is_code-4 c =
+    rw (
+      sym c.is_code.ensures ∙ c.if-is_code.false,
+      sym c.is_code-2.ensures ∙ c.if-is_code-2.false,
+      sym c.is_code-3.ensures ∙ c.if-is_code-3.false,
+      sym c.is_code-4.ensures ∙ c.if-is_code-4.true,
+    )
+
+pub returns : goal.returns
+returns c =
+    c.is_code-5.ensures ∙ last _ ∙ rw (
+      sym c.is_code.ensures ∙ c.if-is_code.false,
+      sym c.is_code-2.ensures ∙ c.if-is_code-2.false,
+      sym c.is_code-3.ensures ∙ c.if-is_code-3.false,
+      sym c.is_code-4.ensures ∙ c.if-is_code-4.false,
+    )

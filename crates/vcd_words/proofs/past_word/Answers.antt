@@ -1,0 +1,34 @@
+-- `vcd_words::past_word` meets its contract. The invariant: from place i on the scan ends where it does from the first; the measure is what is left.
+use mathlib.Core.Path.{refl, sym, ap, ◌∙◌}
+use mathlib.Core.Bool.{not}
+use native.Mathlib.Omega.{arith}
+use Rattle.vcd_words.specs.Places.{is_solid}
+use Rattle.vcd_words.proofs.Scanning.{scan_stops, scan_goes, scan_ends}
+use Rattle.vcd_words.proofs.past_word.Goals as goal
+
+pub returns-then-is_blank : goal.returns-then-is_blank
+returns-then-is_blank c =
+    let read = c.before.before in
+    let l = read.loop-i in
+    let a = read.args in
+    let here = sym c.is_blank.ensures ∙ c.if-is_blank.true in
+    let turn = read.loop-i-test.true in
+    (sym (scan_stops is_solid a.bytes.now l.i turn (ap not here)) ∙ l.invariant.0, l.invariant.1)
+
+pub loop-i-preserved : goal.loop-i-preserved
+loop-i-preserved c =
+    let read = c.before.before in
+    let l = read.loop-i in
+    let a = read.args in
+    let here = sym c.is_blank.ensures ∙ c.if-is_blank.false in
+    let turn = read.loop-i-test.true in
+    (scan_goes is_solid a.bytes.now l.i turn (ap not here) ∙ l.invariant.0, omega (arith, turn))
+
+pub returns : goal.returns
+returns c =
+    let l = c.loop-i in
+    let a = c.args in
+    (sym (scan_ends is_solid a.bytes.now l.i c.loop-i-test.false) ∙ l.invariant.0, l.invariant.1)
+
+pub loop-i-init : goal.loop-i-init
+loop-i-init c = (refl, c.requires)
