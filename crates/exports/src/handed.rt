@@ -9,7 +9,7 @@ use command::{Kind, Params};
 use config::{Uc8253Geometry, Uc8253Timing, Variant};
 use controller::{Active, Current, Operation, Power, Refresh, Uc8253, Work};
 use glass::{Optics, PanelImage, RefreshKind};
-use log::Log;
+use diagnostic_log::Log;
 use ram::Cursor;
 use registers::{Area, Luts, Registers};
 use waveform::Waveform;

@@ -6,7 +6,7 @@ use config::Uc8253Config;
 use differences::{Finding, Place};
 use files::Got;
 use input::front;
-use log::Log;
+use diagnostic_log::Log;
 
 // The bytes of a configuration without its rate, and the numbers of a row.
 const CONFIG: usize = 312;

@@ -14,7 +14,7 @@ mod words;
 use files::{Reading, read_line};
 use input::front;
 use libc::{STDERR_FILENO, STDIN_FILENO};
-use log::ROWS;
+use diagnostic_log::ROWS;
 use showing::INPUT;
 
 // The pixels of the largest panel, 800 by 600.

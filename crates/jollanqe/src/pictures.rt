@@ -4,7 +4,7 @@ ghost use Rattle.text.specs.Text.{Puts, ascii, digits};
 
 use glass::PanelImage;
 use input::front;
-use log::Log;
+use diagnostic_log::Log;
 use output::{Came, Form, Outcome};
 use text::{decimal, put};
 

@@ -11,7 +11,7 @@ use base::Refusal;
 use config::{Uc8253Config, Uc8253Geometry, Uc8253Timing, Variant};
 use controller::{Answer, Current, Mode, Operation, Power, Stage, Uc8253, Work};
 use glass::{Optics, PanelImage, RefreshKind, level};
-use log::Log;
+use diagnostic_log::Log;
 use pixels::{fill_bytes, fill_states, fill_words};
 use registers::{Area, Luts, Pair, Registers};
 use rules::lengths_fit;

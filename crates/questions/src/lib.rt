@@ -13,7 +13,7 @@ ghost use Rattle.controller.specs.Lent.{TurnsRows, Asked};
 
 use base::Refusal;
 use controller::{Due, Uc8253, Work};
-use log::{ROWS, taken};
+use diagnostic_log::{ROWS, taken};
 use pixels::{all_states, draw_wide};
 use ram::{Found, PLANE};
 use rules::{busy_at, foreign};

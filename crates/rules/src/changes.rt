@@ -12,7 +12,7 @@ use crate::refused::ends_refresh;
 use base::{greatest, saturating_add, saturating_sub};
 use clock::{cycles, nanoseconds};
 use controller::{Current, Drive, Note, Notes, Operation, Stage, Uc8253, Work};
-use log::{Log, counted, store};
+use diagnostic_log::{Log, counted, store};
 use waveform::whole_frames;
 
 fn log_noted(log: Log, note: Note) -> Log

@@ -6,7 +6,7 @@ ghost use Rattle.controller.specs.TurnedBack as tests;
 use base::greatest;
 use config::Uc8253Config;
 use controller::{Current, Mode, Operation, Power, Stage, Uc8253, Work};
-use log::ROWS;
+use diagnostic_log::ROWS;
 use ram::PLANE;
 use registers::{Area, Pair, Registers};
 use waveform::Levels;

@@ -18,7 +18,7 @@ ghost use Rattle.shades.specs.Shades.{shades_of};
 use capture::{Capture, MOST_EVENTS, MOST_PIXELS};
 use controller::Uc8253;
 use libc::STDOUT_FILENO;
-use log::ROWS;
+use diagnostic_log::ROWS;
 use outcome::{Came, came_by, panel_came};
 pub use output::Form;
 use output::Outcome;

@@ -10,7 +10,7 @@ use config::Uc8253Config;
 use controller::Uc8253;
 use events::{Event, event_at, step};
 use libc::STDIN_FILENO;
-use log::ROWS;
+use diagnostic_log::ROWS;
 use ram::PLANE;
 use uc8253::power_on;
 

@@ -4,8 +4,8 @@ use mathlib.Core.Bool.{Bool, true, false, false≢true}
 use mathlib.Core.List.{List, [], ◌∷◌, ◌++◌, append_assoc}
 use Prim.Native.Nat.{ℕ, ◌+◌, ◌-◌, ◌≤◌, ◌<◌}
 use native.Mathlib.Omega.{arith}
-use borrow.Author.Tests.{lt-ltb, le-ltb, ltb-true, ltb-false, leb-true, leb-false}
-use lib.Dec.{ltb, leb}
+use borrow.Author.Tests.{ltb-true, ltb-false, leb-true, leb-false}
+use lib.Dec.{ltb}
 use lib.ListN.{length, take, drop, length-append, length-drop, length-take, drop_of_length-le}
 use lib.Seq.{take_all, take-nil}
 use Rattle.base.specs.Pick.{pick}
@@ -15,17 +15,16 @@ use Rattle.vcd_words.specs.Words.{words, closed, opened, shut}
 use Rattle.vcd_words.specs.Places.{part}
 use Rattle.vcd_words.specs.declared.Span.{Span}
 use Rattle.vcd_words.proofs.SpanLaws.{Next}
-use Rattle.vcd_declarations.specs.declared.codes.Codes as place
 use Rattle.vcd_declarations.specs.declared.head.Head.{Head}
-use Rattle.vcd_declarations.specs.Codes.{code_in, five_in, Within, AllWithin}
+use Rattle.vcd_declarations.specs.Codes.{code_in, Within, AllWithin}
 use Rattle.vcd_declarations.specs.Begun.{all_by}
 use Rattle.vcd_simulation.specs.declared.body.Body.{Body}
 use Rattle.vcd_simulation.specs.declared.word.Stepped.{Stepped}
 use Rattle.vcd_simulation.specs.declared.feeding.Fed.{Fed}
-use Rattle.vcd_simulation.specs.Simulation.{Codes, Went, word_done, words_done}
+use Rattle.vcd_simulation.specs.Simulation.{Codes, word_done, words_done}
 use Rattle.vcd_simulation.specs.Written.{written, Holds}
 use Rattle.vcd_simulation.specs.InnerSteps.{Steps}
-use Rattle.vcd_simulation.specs.InnerClip.{end, inside, codes_inside, head_inside, is_open}
+use Rattle.vcd_simulation.specs.InnerClip.{inside, head_inside, is_open}
 use Rattle.vcd_simulation.specs.Feed.{codes_by, words_by, behind, Feeds}
 use Rattle.vcd_simulation.proofs.Holding.{written_join, later}
 

@@ -1,16 +1,13 @@
 -- Only whether a code is one of the five's counts: two lists of codes that agree on that go the same way.
-use mathlib.Core.Path.{◌≡◌, refl, sym, ap, ◌∙◌}
-use mathlib.Core.Bool.{Bool, true, false, ◌&&◌, not, false≢true}
+use mathlib.Core.Path.{◌≡◌, refl, ap, ◌∙◌}
+use mathlib.Core.Bool.{Bool, true, false, false≢true}
 use mathlib.Core.List.{List, [], ◌∷◌, ◌++◌}
 use Prim.Native.Nat.{ℕ, ◌<◌}
-use lib.Dec.{eqb, ltb}
 use lib.ListN.{length, drop}
-use Rattle.base.specs.Pick.{pick}
 use Rattle.base.proofs.Cases.{by_cases}
-use Rattle.vcd_words.specs.Words.{alike, among, printable, closed}
-use Rattle.vcd_values.specs.Levels.{level, unknown, no_level}
+use Rattle.vcd_words.specs.Words.{alike, among, closed}
+use Rattle.vcd_values.specs.Levels.{level}
 use Rattle.vcd_declarations.specs.declared.head.Begun.{Begun}
-use Rattle.vcd_declarations.specs.Declarations.{is_end}
 use Rattle.vcd_declarations.specs.Codes.{five_in}
 use Rattle.vcd_declarations.specs.Begun.{all_by, Begins}
 use Rattle.vcd_declarations.proofs.Settled.{settled_five, settled_all}
@@ -18,7 +15,7 @@ use Rattle.vcd_simulation.specs.declared.body.Wanted.{Wanted}
 use Rattle.vcd_simulation.specs.declared.body.Wanted.TheVariants as want
 use Rattle.vcd_simulation.specs.declared.body.Body.{Body}
 use Rattle.vcd_simulation.specs.Feed.{codes_by}
-use Rattle.vcd_simulation.specs.Simulation.{Codes, Went, changes, is_code, code_word, next_of, value_word, command_word, word_by, word_done, words_done}
+use Rattle.vcd_simulation.specs.Simulation.{Codes, changes, is_code, code_word, next_of, value_word, command_word, word_by, word_done, words_done}
 
 pub record Same (c d : Codes) : Type 0 where
   pub five_same : c.five ≡ d.five

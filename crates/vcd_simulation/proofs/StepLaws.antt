@@ -1,14 +1,13 @@
 -- A word that makes no event, and a word by its first byte.
 use mathlib.Core.Path.{◌≡◌, refl, sym, ap, ◌∙◌}
-use mathlib.Core.Bool.{Bool, true, false, ◌&&◌, not, false≢true}
+use mathlib.Core.Bool.{Bool, true, false, false≢true}
 use mathlib.Core.List.{List, [], ◌∷◌}
 use Prim.Native.Nat.{ℕ, ◌≤◌, ◌<◌}
 use native.Mathlib.Omega.{arith}
 use borrow.Author.Tests.{lt-ltb, le-ltb, eq-eqb, ne_eqb, eqb-true, eqb-false}
 use lib.Dec.{eqb, ltb}
 use lib.ListN.{length, get_or, drop}
-use lib.Seq.{drop-cons}
-use Rattle.base.specs.Pick.{pick, one_of}
+use Rattle.base.specs.Pick.{pick}
 use Rattle.base.proofs.Cases.{both, by_cases}
 use Rattle.text.specs.Text.{ascii}
 use Rattle.event.specs.declared.Event.{Event}
@@ -24,9 +23,9 @@ use Rattle.vcd_simulation.specs.declared.body.Wanted.TheVariants as want
 use Rattle.vcd_simulation.specs.declared.body.Body.{Body}
 use Rattle.vcd_simulation.specs.declared.word.Stepped.{Stepped}
 use Rattle.vcd_simulation.specs.declared.word.Plan.{Plan}
-use Rattle.vcd_simulation.specs.Simulation.{Codes, Went, goes, breaks, unknown_at, changes, is_code, code_word, next_of, later_of, apart_level, apart, value_word, timed, key_word, command_word, section_word, text_word, word_by, word_done}
-use Rattle.vcd_simulation.specs.Written.{written, Holds}
-use Rattle.vcd_simulation.specs.InnerSteps.{Steps, only_to, code_at, planned, Plans, is_marked, Marks, place_of}
+use Rattle.vcd_simulation.specs.Simulation.{Codes, Went, goes, breaks, unknown_at, changes, is_code, code_word, next_of, apart_level, apart, value_word, timed, key_word, command_word, section_word, text_word, word_by, word_done}
+use Rattle.vcd_simulation.specs.Written.{written}
+use Rattle.vcd_simulation.specs.InnerSteps.{Steps, only_to, code_at, Plans, is_marked, Marks, place_of}
 use Rattle.vcd_simulation.proofs.Holding.{none_held, held_as}
 
 -- ---- no event: the buffer stays

@@ -10,7 +10,6 @@ use Rattle.vcd_values.specs.declared.numbers.Time.TheVariants.{At}
 use Rattle.vcd_values.specs.declared.numbers.Time.TheVariants as time
 use Rattle.vcd_values.specs.Levels.{level, vector_level, unknown, no_level}
 use Rattle.vcd_declarations.specs.Declarations.{is_end}
-use Rattle.vcd_bus.specs.declared.Bus.{Bus}
 use Rattle.vcd_simulation.specs.declared.body.Wanted.{Wanted}
 use Rattle.vcd_simulation.specs.declared.body.Wanted.TheVariants as want
 use Rattle.vcd_simulation.specs.declared.body.Body.{Body}

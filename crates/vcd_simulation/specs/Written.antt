@@ -1,5 +1,5 @@
 -- Events as a capture has them, ten bytes each, in a buffer of which the first bytes are held.
-use Rattle.std.specs.Prelude.{◌≡◌, List, [], ◌∷◌, ◌++◌, ℕ, zero, suc, ◌+◌, ◌*◌, ◌/◌, ◌%◌, ◌≤◌, length, take, drop}
+use Rattle.std.specs.Prelude.{◌≡◌, List, [], ◌∷◌, ◌++◌, ℕ, zero, suc, ◌+◌, ◌/◌, ◌%◌, length, take, drop}
 use Rattle.event.specs.declared.Event.{Event}
 
 -- n bytes of a number, the lowest first

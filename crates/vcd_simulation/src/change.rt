@@ -14,7 +14,7 @@ use vcd_bus::{Bus, clocked, on_cs, on_dc, on_mosi, reset, shifted, takes};
 use vcd_declarations::Codes;
 
 // The bus after a change, and how many bytes of events are held.
-#[derive(Drop)]
+#[derive(Clone, Copy)]
 pub(crate) struct Changed {
     pub(crate) bus: Bus,
     pub(crate) held: usize,

@@ -15,7 +15,7 @@ use vcd_values::{NO_LEVEL, Time, UNKNOWN, is_real, level, time, vector_level};
 use vcd_words::{is_one_of, printable, same};
 
 // The body after a word, and how many bytes of events are held.
-#[derive(Drop)]
+#[derive(Clone, Copy)]
 pub(crate) struct Stepped {
     pub(crate) body: Body,
     pub(crate) held: usize,
@@ -23,7 +23,7 @@ pub(crate) struct Stepped {
 
 // What a word comes to: a change of the signals of the code that stands from a place of the word on,
 // to a level, with what may come next in the body; or only the body.
-#[derive(Drop)]
+#[derive(Clone, Copy)]
 pub(crate) struct Plan {
     pub(crate) changes: bool,
     pub(crate) level: u8,

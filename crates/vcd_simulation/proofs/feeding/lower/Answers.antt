@@ -1,0 +1,11 @@
+-- `vcd_simulation::feeding::lower` meets its contract: the lower of two.
+use borrow.Author.Tests.{lt-ltb, le-ltb}
+use Rattle.vcd_simulation.proofs.feeding.lower.Goals as goal
+
+pub returns-then-a-b : goal.returns-then-a-b
+returns-then-a-b c =
+    simp (lt-ltb _ _ c.if-a-b.true)
+
+pub returns : goal.returns
+returns c =
+    simp (le-ltb _ _ c.if-a-b.false)
