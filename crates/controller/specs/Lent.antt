@@ -1,6 +1,6 @@
 -- What a contract says of a call over the five lent slices. Each name is an `abbrev`, so a contract that cites it says what it stands for.
 use Rattle.std.specs.Prelude.{◌≡◌, List, ℕ, ℤ}
-use Rattle.std.specs.Borrow.{Bor}
+use Rattle.std.specs.Borrow.{MutBor}
 use denote.Triple.Both.{Both}
 use Rattle.controller.specs.declared.Uc8253.{Uc8253}
 use Rattle.base.specs.declared.refusals.Refusal.{Refusal}
@@ -11,7 +11,7 @@ use Rattle.controller.specs.Setters.{with_rows}
 
 -- a slice in a requires; in an ensures, where it has an entry and an exit
 abbrev pub Slice : Type 0 → Type 0
-Slice X = Bor (List X)
+Slice X = MutBor (List X)
 
 abbrev pub Lent : Type 0 → Type 0
 Lent X = Both (Slice X) (Slice X)

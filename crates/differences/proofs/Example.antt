@@ -3,7 +3,6 @@ use mathlib.Core.Path.{◌≡◌, refl}
 use mathlib.Core.List.{List, [], ◌∷◌, ◌++◌}
 use Prim.Native.Nat.{ℕ}
 use Rattle.text.specs.Text.{ascii, digits}
-use Rattle.differences.specs.declared.finding.Finding.TheVariants as finding
 use Rattle.differences.specs.Places.{first_place, finding_by}
 use Rattle.differences.specs.Apart.{apart_of}
 use Rattle.differences.specs.Lines.{kind_word, event_words, row_words, event_line, row_line, pixel_line, config_line, rate_line, sizes_line, pixels_line, refused_line}

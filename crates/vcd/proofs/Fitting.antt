@@ -1,16 +1,14 @@
 -- Every event of a dump is one that a capture can hold: its numbers fit ten bytes, and it is listed.
-use mathlib.Core.Path.{◌≡◌, refl, sym, ap, ◌∙◌}
+use mathlib.Core.Path.{◌≡◌, refl}
 use mathlib.Core.Bool.{Bool, true, false, ◌&&◌}
-use mathlib.Core.List.{List, [], ◌∷◌, ◌++◌}
+use mathlib.Core.List.{List, [], ◌∷◌}
 use Prim.Native.Nat.{ℕ, ◌+◌, ◌*◌, ◌%◌, ◌<◌}
 use native.Mathlib.Omega.{arith}
 use lib.Dec.{eqb, ltb}
 use lib.ListN.{get_or}
-use Rattle.base.specs.Pick.{pick}
 use Rattle.base.proofs.Cases.{both}
 use Rattle.text.specs.Text.{ascii}
 use Rattle.capture.specs.Refused.{listed}
-use Rattle.event.specs.declared.Event.{Event}
 use Rattle.vcd_words.specs.Words.{words, alike, among}
 use Rattle.vcd_values.specs.Numbers.{time_of}
 use Rattle.vcd_values.specs.declared.numbers.Time.{Time}
@@ -23,11 +21,11 @@ use Rattle.vcd_bus.specs.declared.Bus.{Bus}
 use Rattle.vcd_simulation.specs.declared.body.Wanted.{Wanted}
 use Rattle.vcd_simulation.specs.declared.body.Wanted.TheVariants as want
 use Rattle.vcd_simulation.specs.declared.body.Body.{Body}
-use Rattle.vcd_bus.specs.Signals.{takes, shifted, byte_kind, byte_events, reset_value, reset_events}
+use Rattle.vcd_bus.specs.Signals.{takes, shifted, byte_events, reset_events}
 use Rattle.vcd_simulation.specs.Coded.{after_code, code_makes}
-use Rattle.vcd_simulation.specs.Simulation.{Codes, Went, goes, breaks, changes, is_code, code_word, next_of, apart_level, apart, value_word, timed, key_word, command_word, word_by, word_done, words_done}
+use Rattle.vcd_simulation.specs.Simulation.{Codes, Went, changes, is_code, code_word, next_of, apart_level, value_word, timed, key_word, command_word, word_by, word_done, words_done}
 use Rattle.vcd_simulation.proofs.Making.{two_make}
-use Rattle.vcd.proofs.Calls.{Fits, AllFit, fit_join}
+use Rattle.vcd.proofs.Calls.{AllFit, fit_join}
 
 abbrev limit : ℕ
 limit = 0x1_0000_0000_0000_0000

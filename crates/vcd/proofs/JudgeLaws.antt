@@ -1,27 +1,20 @@
 -- A dump by what reading it gives: the places tell the codes, and the words after the declarations are those that are left.
-use mathlib.Core.Path.{◌≡◌, refl, sym, ap, ◌∙◌}
-use mathlib.Core.Bool.{Bool, true, false, ◌||◌, not}
-use mathlib.Core.List.{List, [], ◌∷◌}
+use mathlib.Core.Path.{◌≡◌, refl, ap, ◌∙◌}
+use mathlib.Core.Bool.{Bool, true, false, ◌||◌}
+use mathlib.Core.List.{List, []}
 use Prim.Native.Nat.{ℕ, ◌≤◌}
-use lib.Dec.{eqb}
 use lib.ListN.{length, drop, drop_of_length-le}
-use Rattle.base.specs.Pick.{pick}
-use Rattle.base.proofs.Cases.{by_cases}
-use Rattle.vcd_words.specs.Words.{words, closed, opened, alike, among}
-use Rattle.vcd_words.specs.declared.Span.{Span}
-use Rattle.vcd_declarations.specs.declared.head.Head as place
+use Rattle.vcd_words.specs.Words.{words, closed, opened, alike}
 use Rattle.vcd_declarations.specs.declared.head.Begun.{Begun}
-use Rattle.vcd_declarations.specs.Declarations.{Head, cut, head_of}
-use Rattle.vcd_declarations.specs.Declarations as declare
-use Rattle.vcd_declarations.specs.Codes.{code_in, five_in}
+use Rattle.vcd_declarations.specs.Codes.{code_in}
 use Rattle.vcd_declarations.specs.Begun.{Begins}
 use Rattle.vcd_declarations.proofs.HeadLaws.{empty_is}
 use Rattle.vcd_simulation.specs.declared.body.Body.{Body}
-use Rattle.vcd_simulation.specs.Simulation.{Codes, Went, begun, words_done, is_over}
+use Rattle.vcd_simulation.specs.Simulation.{Codes, Went, begun, words_done}
 use Rattle.vcd_simulation.specs.Feed.{codes_by}
 use Rattle.vcd_simulation.proofs.SameCodes.{Same, words_same}
 use Rattle.vcd.specs.Dump.{head_in, codes_in, simulated, malformed, unsignalled, judged}
-use Rattle.vcd.specs.Judging.{body_after, is_none, any_none, malformed_by, unsignalled_by, judged_by}
+use Rattle.vcd.specs.Judging.{body_after, malformed_by, unsignalled_by, judged_by}
 
 module _ (dump : List ℕ) (b : Begun) (g : Begins dump b) where
   -- the codes by their places are those that the declarations give

@@ -1,14 +1,13 @@
 -- Every event of an accepted dump is taken: no call is turned back.
-use mathlib.Core.Path.{◌≡◌, refl, sym, ap, ◌∙◌}
-use mathlib.Core.Bool.{Bool, true, false, ◌||◌}
-use mathlib.Core.List.{List, [], ◌∷◌, ◌++◌}
-use Prim.Native.Nat.{ℕ, ◌<◌}
+use mathlib.Core.Path.{◌≡◌, refl}
+use mathlib.Core.Bool.{Bool, true, false}
+use mathlib.Core.List.{List, [], ◌∷◌}
+use Prim.Native.Nat.{ℕ}
 use native.Mathlib.Omega.{arith}
 use lib.Dec.{eqb}
-use lib.ListN.{length, get_or}
+use lib.ListN.{length}
 use borrow.Author.Tests.{eqb-true}
 use Rattle.base.specs.Pick.{pick}
-use Rattle.base.proofs.Cases.{by_cases}
 use Rattle.controller.specs.World.{World, Buffers}
 use Rattle.controller.specs.TurnedBack.{making_refused}
 use Rattle.controller.specs.Calls.{made}
@@ -22,8 +21,7 @@ use Rattle.vcd_declarations.specs.Declarations.{cut}
 use Rattle.vcd_simulation.specs.Simulation.{begun}
 use Rattle.capture.specs.Refused.{bad_config, listed}
 use Rattle.vcd.specs.Dump.{codes_in, simulated, malformed, unsignalled, dump_events, config_in, dump_refused}
-use Rattle.vcd.specs.Played.{calls}
-use Rattle.vcd.proofs.Calls.{Fits, AllFit, fit_join}
+use Rattle.vcd.proofs.Calls.{AllFit, fit_join}
 use Rattle.vcd.proofs.Fitting.{words_fit}
 
 -- each call in turn is taken

@@ -1,5 +1,4 @@
 -- `test_numerals::number` meets its contract: the digits from where the skipped bytes end.
-use borrow.Author.Rules.{rules}
 use Rattle.test_numerals.proofs.number.Goals as goal
 
 pub returns : goal.returns

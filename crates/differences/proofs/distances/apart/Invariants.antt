@@ -1,13 +1,9 @@
 -- `differences::distances::apart` meets its contract. The invariant: what was counted and what is to come give the whole.
 -- The measure is what is left of the shorter list.
-use mathlib.Core.Path.{◌≡◌, sym, ap, ◌∙◌}
-use Prim.Native.Nat.{ℕ, ◌+◌, ◌-◌, ◌≤◌, max}
-use native.Mathlib.Omega.{arith}
+use mathlib.Core.Path.{◌≡◌}
+use Prim.Native.Nat.{◌+◌, ◌-◌, ◌≤◌, max}
 use lib.ListN.{length, drop}
-use Rattle.differences.specs.declared.distances.Spread.{Spread}
-use Rattle.differences.specs.Apart.{differing, farthest, apart_of}
-use Rattle.differences.proofs.ApartLaws.{differing_more, farthest_more, differing_done, farthest_done}
-use borrow.Author.Rules.{rules}
+use Rattle.differences.specs.Apart.{differing, farthest}
 use Rattle.differences.proofs.distances.apart.Given as goal
 
 abbrev pub invariant-loop-i : goal.invariant-loop-i

@@ -1,7 +1,6 @@
 -- `differences::distances::unlike` meets its contract.
 use native.Mathlib.Omega.{arith}
 use borrow.Author.Tests.{eq-eqb, ne_eqb}
-use borrow.Author.Rules.{rules}
 use Rattle.differences.proofs.distances.unlike.Goals as goal
 
 pub returns-then-x-y : goal.returns-then-x-y

@@ -1,7 +1,6 @@
 -- `differences::finding::find` meets its contract: by the three places.
 use mathlib.Core.Path.{◌∙◌}
-use Rattle.differences.specs.Places.{first_place, finding_by}
-use borrow.Author.Rules.{rules}
+use Rattle.differences.specs.Places.{finding_by}
 use Rattle.differences.proofs.finding.find.Goals as goal
 
 pub returns : goal.returns

@@ -1,5 +1,4 @@
 -- `differences::finding::found` meets its contract, case by case.
-use borrow.Author.Rules.{rules}
 use Rattle.differences.proofs.finding.found.Goals as goal
 
 pub returns-in-At : goal.returns-in-At

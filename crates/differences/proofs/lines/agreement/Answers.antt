@@ -1,6 +1,5 @@
 -- `differences::lines::agreement` meets its contract.
 use Rattle.differences.specs.Lines.{agreement_line}
-use borrow.Author.Rules.{rules}
 use Rattle.differences.proofs.lines.agreement.Goals as goal
 
 pub returns : goal.returns

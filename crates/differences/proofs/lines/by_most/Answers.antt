@@ -1,7 +1,6 @@
 -- `differences::lines::by_most` meets its contract: a distance where some differ.
 use borrow.Author.Tests.{eq-eqb, ne_eqb}
 use Rattle.text.proofs.Filling.{puts_then}
-use borrow.Author.Rules.{rules}
 use Rattle.differences.proofs.lines.by_most.Goals as goal
 
 pub returns-then-d-eq0 : goal.returns-then-d-eq0

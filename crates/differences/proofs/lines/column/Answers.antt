@@ -1,7 +1,6 @@
 -- `differences::lines::column` meets its contract; no panel has a width of 0.
 use mathlib.Core.Path.{sym}
 use native.Mathlib.Nat.{mod-zero}
-use borrow.Author.Rules.{rules}
 use Rattle.differences.proofs.lines.column.Goals as goal
 
 pub returns-then-width-eq0 : goal.returns-then-width-eq0

@@ -1,7 +1,6 @@
 -- `differences::lines::config_line` meets its contract: the place, and then the bytes there.
 use Rattle.text.proofs.Filling.{puts_then}
 use Rattle.differences.specs.Lines.{config_line}
-use borrow.Author.Rules.{rules}
 use Rattle.differences.proofs.lines.config_line.Goals as goal
 
 pub returns : goal.returns

@@ -1,8 +1,6 @@
 -- `differences::lines::entry` meets its contract: past the last there is 0.
 use mathlib.Core.Path.{sym}
-use native.Mathlib.Omega.{arith}
 use Rattle.base.proofs.Lists.{get_d_past}
-use borrow.Author.Rules.{rules}
 use Rattle.differences.proofs.lines.entry.Goals as goal
 
 pub returns : goal.returns

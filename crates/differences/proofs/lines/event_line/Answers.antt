@@ -1,7 +1,6 @@
 -- `differences::lines::event_line` meets its contract: the index, and then both sides.
 use Rattle.text.proofs.Filling.{puts_then}
 use Rattle.differences.specs.Lines.{event_line}
-use borrow.Author.Rules.{rules}
 use Rattle.differences.proofs.lines.event_line.Goals as goal
 
 pub returns : goal.returns

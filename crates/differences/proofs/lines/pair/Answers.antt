@@ -5,7 +5,6 @@ use Prim.Native.Nat.{ℕ}
 use lib.ListN.{get_or}
 use Rattle.text.specs.Text.{ascii, digits}
 use Rattle.text.proofs.Filling.{puts_as, puts_then}
-use borrow.Author.Rules.{rules}
 use Rattle.differences.proofs.lines.pair.Goals as goal
 
 pub returns : goal.returns

@@ -1,11 +1,10 @@
 -- `differences::lines::pixel_line` meets its contract: column and row, and then the greys there.
 use mathlib.Core.Path.{ap, ◌∙◌}
-use mathlib.Core.List.{List, ◌++◌}
+use mathlib.Core.List.{◌++◌}
 use Prim.Native.Nat.{ℕ, ◌%◌}
 use Rattle.text.specs.Text.{ascii}
 use Rattle.differences.specs.Lines.{blank, pair, pixel_line}
 use Rattle.text.proofs.Filling.{puts_as, puts_then}
-use borrow.Author.Rules.{rules}
 use Rattle.differences.proofs.lines.pixel_line.Goals as goal
 
 pub returns : goal.returns

@@ -1,7 +1,6 @@
 -- `differences::lines::pixels_line` meets its contract: how many, of how many, and by how much.
 use Rattle.text.proofs.Filling.{puts_then}
 use Rattle.differences.specs.Lines.{pixels_line}
-use borrow.Author.Rules.{rules}
 use Rattle.differences.proofs.lines.pixels_line.Goals as goal
 
 pub returns : goal.returns

@@ -1,7 +1,6 @@
 -- `differences::lines::rate_line` meets its contract: a rate, and then the other.
 use Rattle.text.proofs.Filling.{puts_then}
 use Rattle.differences.specs.Lines.{rate_line}
-use borrow.Author.Rules.{rules}
 use Rattle.differences.proofs.lines.rate_line.Goals as goal
 
 pub returns : goal.returns

@@ -1,7 +1,6 @@
 -- `differences::lines::refused_line` meets its contract: the number, and then the name.
 use Rattle.text.proofs.Filling.{puts_then}
 use Rattle.differences.specs.Lines.{refused_line}
-use borrow.Author.Rules.{rules}
 use Rattle.differences.proofs.lines.refused_line.Goals as goal
 
 pub returns : goal.returns

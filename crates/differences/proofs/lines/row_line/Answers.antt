@@ -1,7 +1,6 @@
 -- `differences::lines::row_line` meets its contract: the index, and then both sides.
 use Rattle.text.proofs.Filling.{puts_then}
 use Rattle.differences.specs.Lines.{row_line}
-use borrow.Author.Rules.{rules}
 use Rattle.differences.proofs.lines.row_line.Goals as goal
 
 pub returns : goal.returns

@@ -1,6 +1,5 @@
 -- `differences::lines::size` meets its contract: width and height.
 use Rattle.text.proofs.Filling.{puts_then}
-use borrow.Author.Rules.{rules}
 use Rattle.differences.proofs.lines.size.Goals as goal
 
 pub returns : goal.returns

@@ -1,7 +1,6 @@
 -- `differences::lines::sizes_line` meets its contract: a size, and then the other.
 use Rattle.text.proofs.Filling.{puts_then}
 use Rattle.differences.specs.Lines.{sizes_line}
-use borrow.Author.Rules.{rules}
 use Rattle.differences.proofs.lines.sizes_line.Goals as goal
 
 pub returns : goal.returns

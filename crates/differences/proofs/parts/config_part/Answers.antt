@@ -3,7 +3,6 @@ use mathlib.Core.Path.{sym, ap, ◌∙◌}
 use Rattle.text.proofs.Filling.{puts_as}
 use Rattle.differences.specs.declared.places.Place.{Place}
 use Rattle.differences.specs.Parts.{config_by, config_part}
-use borrow.Author.Rules.{rules}
 use Rattle.differences.proofs.parts.config_part.Goals as goal
 
 pub returns-in-At : goal.returns-in-At

@@ -1,5 +1,4 @@
 -- `differences::parts::finding_part` meets its contract, case by case.
-use borrow.Author.Rules.{rules}
 use Rattle.differences.proofs.parts.finding_part.Goals as goal
 
 pub returns-in-Event : goal.returns-in-Event

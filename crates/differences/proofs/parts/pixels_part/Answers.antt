@@ -6,7 +6,6 @@ use Rattle.text.proofs.Filling.{puts_as}
 use Rattle.differences.specs.declared.distances.Spread.{Spread}
 use Rattle.differences.specs.Lines.{pixels_line}
 use Rattle.differences.specs.Parts.{pixels_part}
-use borrow.Author.Rules.{rules}
 use Rattle.differences.proofs.parts.pixels_part.Goals as goal
 
 pub returns-then-width_a-width_b : goal.returns-then-width_a-width_b

@@ -1,6 +1,5 @@
 -- `differences::parts::rate_part` meets its contract: one test.
 use borrow.Author.Tests.{eq-eqb, ne_eqb}
-use borrow.Author.Rules.{rules}
 use Rattle.differences.proofs.parts.rate_part.Goals as goal
 
 pub returns-then-rate_a-rate_b : goal.returns-then-rate_a-rate_b

@@ -1,12 +1,9 @@
 -- `differences::places::first_number` meets its contract. The invariant: what is looked for is the first from entry i on.
 -- The measure is what is left of the shorter list.
 use mathlib.Core.Path.{◌≡◌, sym, ◌∙◌}
-use Prim.Native.Nat.{◌-◌, ◌≤◌}
 use native.Mathlib.Omega.{arith}
-use lib.ListN.{drop}
-use Rattle.differences.specs.Places.{first_from, first_place}
+use Rattle.differences.specs.Places.{first_place}
 use Rattle.differences.proofs.PlaceLaws.{place_here, place_later, place_nowhere, place_end}
-use borrow.Author.Rules.{rules}
 use Rattle.differences.proofs.places.first_number.Goals as goal
 
 pub returns-then-a-i : goal.returns-then-a-i

@@ -1,7 +1,6 @@
 -- `differences::sides::event` meets its contract: kind, value and time, or nothing past the last.
 use Rattle.text.proofs.Filling.{puts_as, puts_then}
 use Rattle.differences.proofs.LineLaws.{no_event, is_event}
-use borrow.Author.Rules.{rules}
 use Rattle.differences.proofs.sides.event.Goals as goal
 
 pub returns-then-events-i : goal.returns-then-events-i

@@ -1,7 +1,6 @@
 -- `differences::sides::row` meets its contract: five numbers, or nothing past the last.
 use Rattle.text.proofs.Filling.{puts_as, puts_then}
 use Rattle.differences.proofs.LineLaws.{no_row, is_row}
-use borrow.Author.Rules.{rules}
 use Rattle.differences.proofs.sides.row.Goals as goal
 
 pub returns-then-rows-i : goal.returns-then-rows-i

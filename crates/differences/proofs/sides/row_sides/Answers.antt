@@ -4,7 +4,6 @@ use lib.ListN.{length}
 use Rattle.text.proofs.Filling.{puts_as, puts_then}
 use Rattle.differences.specs.Lines.{row_words}
 use Rattle.differences.proofs.LineLaws.{in_both, in_first, in_second}
-use borrow.Author.Rules.{rules}
 use Rattle.differences.proofs.sides.row_sides.Goals as goal
 
 pub returns-then-i-b : goal.returns-then-i-b

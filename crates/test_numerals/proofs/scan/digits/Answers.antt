@@ -1,10 +1,8 @@
 -- `test_numerals::scan::digits` meets its contract. The invariant: the number so far takes the digits from place i on. The measure is what is left of the text.
-use mathlib.Core.Path.{◌≡◌, refl, sym, ap, ◌∙◌}
-use Prim.Native.Nat.{ℕ, ◌+◌, ◌-◌}
-use borrow.Author.Rules.{rules}
-use borrow.Author.Tests.{not-true, not-false}
+use mathlib.Core.Path.{refl, sym, ap, ◌∙◌}
+use Prim.Native.Nat.{ℕ, ◌+◌}
 use native.Mathlib.Omega.{arith}
-use lib.ListN.{length, drop}
+use lib.ListN.{drop}
 use Rattle.test_numerals.specs.Rows.{taken, digits_at}
 use Rattle.test_numerals.proofs.RowsLaws.{taken_digit, taken_other, taken_end}
 use Rattle.test_numerals.proofs.scan.digits.Goals as goal

@@ -1,12 +1,8 @@
 -- `test_numerals::scan::digits` meets its contract. The invariant: the number so far takes the digits from place i on. The measure is what is left of the text.
-use mathlib.Core.Path.{◌≡◌, refl, sym, ap, ◌∙◌}
-use Prim.Native.Nat.{ℕ, ◌+◌, ◌-◌}
-use borrow.Author.Rules.{rules}
-use borrow.Author.Tests.{not-true, not-false}
-use native.Mathlib.Omega.{arith}
+use mathlib.Core.Path.{◌≡◌}
+use Prim.Native.Nat.{◌-◌}
 use lib.ListN.{length, drop}
 use Rattle.test_numerals.specs.Rows.{taken, digits_at}
-use Rattle.test_numerals.proofs.RowsLaws.{taken_digit, taken_other, taken_end}
 use Rattle.test_numerals.proofs.scan.digits.Given as goal
 
 abbrev pub invariant-loop-i : goal.invariant-loop-i

@@ -1,10 +1,6 @@
 -- `test_numerals::scan::skip` meets its contract. The invariant: the first digit is the same from place i on. The measure is what is left of the text.
-use mathlib.Core.Path.{◌≡◌, refl, sym, ◌∙◌}
-use Prim.Native.Nat.{◌-◌}
-use borrow.Author.Rules.{rules}
+use mathlib.Core.Path.{refl, sym, ◌∙◌}
 use native.Mathlib.Omega.{arith}
-use lib.ListN.{length}
-use Rattle.test_numerals.specs.Rows.{skipped}
 use Rattle.test_numerals.proofs.RowsLaws.{skipped_digit, skipped_other, skipped_end}
 use Rattle.test_numerals.proofs.scan.skip.Goals as goal
 
