@@ -1,6 +1,6 @@
 -- What a contract says of a call over the five lent slices. Each name is an `abbrev`, so a contract that cites it says what it stands for.
 use Rattle.std.specs.Prelude.{◌≡◌, List, ℕ, ℤ}
-use Rattle.std.specs.Borrow.{MutBor}
+use Rattle.std.specs.Borrow.{Bor, MutBor}
 use denote.Triple.Both.{Both}
 use Rattle.controller.specs.declared.Uc8253.{Uc8253}
 use Rattle.base.specs.declared.refusals.Refusal.{Refusal}
@@ -62,6 +62,6 @@ Makes f number q r old new states picture rows =
     (world q (after old new states picture rows) ≡ f (before old new states picture rows))
     × (refusal_number r ≡ number (before old new states picture rows))
 
--- the rows alone, whatever else is lent
-abbrev pub TurnsRows : (World → World) → Uc8253 → Uc8253 → Lent ℕ → Type 0
+-- the rows alone, which are only read, whatever else is lent
+abbrev pub TurnsRows : (World → World) → Uc8253 → Uc8253 → Both (Bor (List ℕ)) (Bor (List ℕ)) → Type 0
 TurnsRows f p q rows = (b : Buffers) → world q (with_rows rows.exit.now b) ≡ f (world p (with_rows rows.entry.now b))

@@ -2,7 +2,7 @@
 // puts its pixels. Nothing is asked of the record.
 #![tactic(auto)]
 
-mod pixels;
+mod pixel_bytes;
 mod reading;
 
 ghost use Rattle.std.specs.Prelude.{◌≡◌};
@@ -12,8 +12,8 @@ ghost use Rattle.controller.specs.Counting.{own};
 use command::{Kind, Params};
 use controller::{Active, Current, Note, Uc8253, Use, Work};
 use diagnostic::DiagnosticKind;
-pub use pixels::put_byte;
-use pixels::{past_note, pixel_byte};
+pub use pixel_bytes::put_byte;
+use pixel_bytes::{past_note, pixel_byte};
 pub use reading::{read_byte, read_note, read_of};
 use registers::{Luts, Registers};
 use rules::{counted, purpose, start, with_current};

@@ -8,20 +8,21 @@ use native.Mathlib.Nat.{mod-eq_of_lt}
 use native.Mathlib.Numerals.{add-one}
 use borrow.Author.Tests.{ne_eqb, eqb-true}
 use lib.Dec.{eqb}
-use lib.IntN.{ℤ, pos}
+use Rattle.std.specs.Prelude.{None, Some}
 use lib.ListN.{length, get_or, take, drop, set, length-set}
 use lib.Seq.{take-suc-set, drop-set-lt, drop-drop}
 use Rattle.base.specs.Word.{top}
 use Rattle.base.proofs.Cases.{by_cases}
-use Rattle.io.specs.Counts.{IsPrefixLen}
+use Rattle.input.specs.Within.{IsPrefixLen}
 use Rattle.input.specs.declared.Input.{Input}
 use Rattle.input.specs.declared.Input.TheVariants as input
 use Rattle.input.specs.Within.{Within}
 use Rattle.files.specs.declared.reading.Got.TheVariants as got
 use Rattle.files.specs.declared.reading.Reading.{Reading}
 use Rattle.files.specs.declared.reading.Reading.TheVariants as reading
-use Rattle.files.specs.Reading.{is_input, Gives, no_newline, Fills, FillsSome, ReadsLine, line_of, Ends}
+use Rattle.files.specs.Reading.{is_input, Gives, no_newline, Fills, ReadsLine, line_of, Ends}
 use Rattle.files.specs.Writing.{Opens}
+use Rattle.files.specs.declared.stream.Stream.TheVariants.{Standard, Named}
 
 -- ---- names
 pub input_one : (name : List ℕ) → length name ≡ 1 → eqb (get_or name 0 0) 45 ≡ is_input name
@@ -34,13 +35,17 @@ input_none [] n = refl
 input_none (b ∷ []) n = absurd (n refl)
 input_none (b ∷ (c ∷ name)) n = refl
 
-pub opens_none : (name : List ℕ) → length name ≡ 0 → Opens name (pos 1)
-opens_none [] e = refl
-opens_none (b ∷ name) e = tt
+pub opens_none : (S F : Type 0) (name : List ℕ) (s : S) → length name ≡ 0 → Opens {S = S} {F = F} name (Some (Standard s))
+opens_none S F [] s e = tt
+opens_none S F (b ∷ name) s e = absurd (omega (arith, e))
 
-pub opens_some : (name : List ℕ) (fd : ℤ) → (length name ≡ 0 → ⊥) → Opens name fd
-opens_some [] fd n = absurd (n refl)
-opens_some (b ∷ name) fd n = tt
+pub opens_some : (S F : Type 0) (name : List ℕ) (f : F) → (length name ≡ 0 → ⊥) → Opens {S = S} {F = F} name (Some (Named f))
+opens_some S F [] f n = absurd (n refl)
+opens_some S F (b ∷ name) f n = tt
+
+pub opens_failed : (S F : Type 0) (name : List ℕ) → (length name ≡ 0 → ⊥) → Opens {S = S} {F = F} name None
+opens_failed S F [] n = absurd (n refl)
+opens_failed S F (b ∷ name) n = tt
 
 -- ---- a file
 pub bytes_counted : (r : Input) (n : ℕ) (buffer : List ℕ) → r ≡ input.Bytes n → Within r buffer → IsPrefixLen n buffer
@@ -99,4 +104,4 @@ pub full_ended : (held : ℕ) (r : Reading) (line line' : List ℕ) → Fills he
 full_ended held (reading.Line n) line line' f e k = rw k f
 full_ended held reading.TooLong line line' f e k = rw (← e) f
 full_ended held reading.End line line' f e k = ap (λ (n : ℕ). drop n line') (sym k) ∙ f.rest ∙ ap (λ (n : ℕ). drop n line) k
-full_ended held reading.Failed line line' f e k = record { n = held; fills = f }
+full_ended held (reading.Failed error) line line' f e k = record { n = held; fills = f }

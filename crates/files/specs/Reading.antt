@@ -1,7 +1,7 @@
 -- What reading gives. Which bytes the system hands over is free.
 use Rattle.std.specs.Prelude.{◌≡◌, Bool, true, false, ◌&&◌, not, List, [], ◌∷◌, ℕ, ◌≤◌, ◌<◌, eqb, length, take, drop}
 use Rattle.base.specs.Pick.{pick}
-use Rattle.io.specs.Counts.{IsPrefixLen}
+use Rattle.input.specs.Within.{IsPrefixLen}
 use Rattle.files.specs.declared.reading.Reading.{Reading}
 use Rattle.files.specs.declared.reading.Reading.TheVariants as reading
 use Rattle.files.specs.declared.reading.Got.{Got}
@@ -37,7 +37,7 @@ abbrev pub ReadsLine : Reading → List ℕ → List ℕ → Type 0
 ReadsLine (reading.Line n) line line' = Fills n line line'
 ReadsLine reading.TooLong line line' = Fills (length line) line line'
 ReadsLine reading.End line line' = line' ≡ line
-ReadsLine reading.Failed line line' = FillsSome line line'
+ReadsLine (reading.Failed error) line line' = FillsSome line line'
 
 -- what follows n bytes of a line
 abbrev pub line_of : ℕ → Reading
@@ -47,4 +47,4 @@ abbrev pub Ends : ℕ → Reading → Type 0
 Ends n (reading.Line k) = k ≡ n
 Ends n reading.TooLong = Unit
 Ends n reading.End = n ≡ 0
-Ends n reading.Failed = Unit
+Ends n (reading.Failed error) = Unit

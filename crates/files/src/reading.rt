@@ -1,9 +1,12 @@
 // Files by name, and lines of standard input. What fails is said on standard error by name.
-ghost use Rattle.std.specs.Prelude.{◌≡◌, ℕ, ◌≤◌};
+ghost use Rattle.std.specs.Prelude.{◌≡◌, ℕ, ◌≤◌, IfOk};
 ghost use Rattle.files.specs.Reading as rule;
 
+use crate::naming::{path, tell};
 use input::{Input, read_all};
-use libc::STDIN_FILENO;
+use std::io::{Error, Read};
+use std::rt::Files;
+use std::{fs, io};
 
 #[derive(Clone, Copy)]
 pub enum Reading {
@@ -11,7 +14,8 @@ pub enum Reading {
     Line(usize),
     TooLong,
     End,
-    Failed,
+    // The system refused a read, and why.
+    Failed(Error),
 }
 
 // What reading a file gave: so many bytes at the buffer's start; and how many there are in all,
@@ -26,8 +30,6 @@ pub enum Got {
 // What `byte` gives where there is no byte.
 const OVER: u16 = 256;
 
-const UNREAD: u16 = 257;
-
 const NEWLINE: u16 = 10;
 
 fn wide(b: u8) -> u16
@@ -37,18 +39,15 @@ fn wide(b: u8) -> u16
 }
 
 // One byte, or the end of the input, or that the read failed.
-fn byte(fd: i32) -> u16
-    ensures { result ≤ 257 }
+fn byte<I: Read>(input: &mut I) -> io::Result<u16>
+    ensures { IfOk result (λ b. b ≤ 256) }
 {
     let mut one = [0u8; 1];
-    let got = libc::read(fd, &mut one);
-    if got < 0 {
-        return UNREAD;
+    let n = input.read(&mut one)?;
+    if n == 0 {
+        return Ok(OVER);
     }
-    if got == 0 {
-        return OVER;
-    }
-    wide(one[0])
+    Ok(wide(one[0]))
 }
 
 // The input ends behind so many bytes of a line.
@@ -62,15 +61,15 @@ fn line_of(held: usize) -> Reading
 }
 
 // The rest of a line that is too long.
-fn pass_line(fd: i32) -> Reading
+fn pass_line<I: Read>(input: &mut I) -> Reading
     ensures { (n : ℕ) → rule.Ends n result }
 {
     let mut turns = base::TOP;
     while 0 < turns {
-        let b = byte(fd);
-        if b == UNREAD {
-            return Reading::Failed;
-        }
+        let b = match byte(input) {
+            Ok(b) => b,
+            Err(error) => return Reading::Failed(error),
+        };
         if b == OVER {
             return Reading::TooLong;
         }
@@ -83,32 +82,32 @@ fn pass_line(fd: i32) -> Reading
 }
 
 // Behind the bytes of a line that fill their space.
-fn past_full(fd: i32, held: usize) -> Reading
+fn past_full<I: Read>(input: &mut I, held: usize) -> Reading
     ensures { rule.Ends held result }
 {
-    let b = byte(fd);
-    if b == UNREAD {
-        return Reading::Failed;
-    }
+    let b = match byte(input) {
+        Ok(b) => b,
+        Err(error) => return Reading::Failed(error),
+    };
     if b == OVER {
         return line_of(held);
     }
     if b == NEWLINE {
         return Reading::Line(held);
     }
-    pass_line(fd)
+    pass_line(input)
 }
 
 // The next line of an input; of one that is too long the rest is passed over.
-pub fn read_line(fd: i32, line: &mut [u8]) -> Reading
+pub fn read_line<I: Read>(input: &mut I, line: &mut [u8]) -> Reading
     ensures { rule.ReadsLine result line.old line.new }
 {
     let mut held: usize = 0;
     while held < line.len() {
-        let b = byte(fd);
-        if b == UNREAD {
-            return Reading::Failed;
-        }
+        let b = match byte(input) {
+            Ok(b) => b,
+            Err(error) => return Reading::Failed(error),
+        };
         if b == OVER {
             return line_of(held);
         }
@@ -118,17 +117,16 @@ pub fn read_line(fd: i32, line: &mut [u8]) -> Reading
         line[held] = (b % 256) as u8;
         held += 1;
     }
-    past_full(fd, held)
+    past_full(input, held)
 }
 
 // How many bytes are left of an input, by reading them.
-fn rest(fd: i32) -> u64 {
-    let mut space = io::large_buffer();
+fn rest<I: Read>(input: &mut I) -> u64 {
+    let mut space = [0u8; 65536];
     let mut count: u64 = 0;
     let mut turns = base::TOP;
     while 0 < turns {
-        let got = libc::read(fd, &mut space);
-        let n = io::count(got, &space);
+        let n = input.read(&mut space).unwrap_or(0);
         if n == 0 {
             return count;
         }
@@ -138,20 +136,20 @@ fn rest(fd: i32) -> u64 {
     count
 }
 
-// The bytes of a descriptor.
-fn read_from(fd: i32, name: &[u8], buffer: &mut [u8]) -> Got
+// The bytes of an input.
+fn read_from<R: Eprint, I: Read>(rt: &R, input: &mut I, name: &[u8], buffer: &mut [u8]) -> Got
     ensures { rule.Gives result buffer.new }
 {
-    let got = read_all(fd, buffer);
+    let got = read_all(input, buffer);
     match got {
         Input::Bytes(n) => {
             if n < buffer.len() {
                 return Got::Bytes(n, n as u64);
             }
-            Got::Bytes(n, base::saturating_add(n as u64, rest(fd)))
+            Got::Bytes(n, base::saturating_add(n as u64, rest(input)))
         }
-        Input::Failed => {
-            os::fail(name);
+        Input::Failed(error) => {
+            tell(rt, name, error);
             Got::Failed
         }
     }
@@ -167,19 +165,25 @@ pub fn is_input(name: &[u8]) -> bool
     false
 }
 
+// The file of that name.
+pub fn open_read<R: Files>(rt: &R, name: &[u8]) -> io::Result<R::File> {
+    let path = path(name)?;
+    fs::open(rt, path)
+}
+
 // The bytes of a file; `-` is standard input.
-pub fn read(name: &[u8], buffer: &mut [u8]) -> Got
+pub fn read<R: Files + io::Input + Eprint>(rt: &R, name: &[u8], buffer: &mut [u8]) -> Got
     ensures { rule.Gives result buffer.new }
 {
     if is_input(name) {
-        return read_from(STDIN_FILENO, b"standard input", buffer);
+        let mut input = rt.reader();
+        return read_from(rt, &mut input, b"standard input", buffer);
     }
-    let fd = os::open_read(name);
-    if fd < 0 {
-        os::fail(name);
-        return Got::Failed;
+    match open_read(rt, name) {
+        Ok(mut file) => read_from(rt, &mut file, name, buffer),
+        Err(error) => {
+            tell(rt, name, error);
+            Got::Failed
+        }
     }
-    let got = read_from(fd, name, buffer);
-    libc::close(fd);
-    got
 }

@@ -1,41 +1,62 @@
 // Where a job writes: the file of that name, or standard output where the name is empty.
-ghost use Rattle.std.specs.Prelude.{◌≡◌};
+ghost use Rattle.std.specs.Prelude.{◌≡◌, is_ok};
 ghost use Rattle.files.specs.Writing.{Opens};
 
-use libc::STDOUT_FILENO;
+use crate::naming::{path, tell};
+use crate::stream::Stream;
+use std::io::{Error, Printer};
+use std::rt::Files;
+use std::{fs, io};
 
-// The descriptor, below 0 where the file could not be opened, which was said.
-pub fn open(name: &[u8]) -> i32
+// The file of that name, empty: one that is there is emptied.
+pub fn create<R: Files>(rt: &R, name: &[u8]) -> io::Result<R::File> {
+    let path = path(name)?;
+    fs::create(rt, path)
+}
+
+// What is written to; nothing where the file could not be opened, which was said.
+pub fn open<'a, R: Files + Print + Eprint>(
+    rt: &'a R,
+    name: &[u8],
+) -> Option<Stream<Printer<'a, R>, R::File>>
     ensures { Opens name.now result }
 {
     if name.len() == 0 {
-        return STDOUT_FILENO;
+        return Some(Stream::Standard(io::writer(rt)));
     }
-    let fd = os::open_overwrite(name);
-    if fd < 0 {
-        os::fail(name);
+    match create(rt, name) {
+        Ok(file) => Some(Stream::Named(file)),
+        Err(error) => {
+            tell(rt, name, error);
+            None
+        }
     }
-    fd
 }
 
 // Says that a write failed.
-fn fail(name: &[u8]) {
+fn fail<R: Eprint>(rt: &R, name: &[u8], error: Error) {
     if name.len() == 0 {
-        os::fail(b"standard output");
+        tell(rt, b"standard output", error);
         return;
     }
-    os::fail(name);
+    tell(rt, name, error);
 }
 
 // The end of what is written. Whether all of it could be is handed back, and said where it is not so.
-pub fn close(name: &[u8], fd: i32, written: bool) -> bool
-    ensures { result ≡ written }
+pub fn close<R: Eprint, S: Drop, F: Drop>(
+    rt: &R,
+    name: &[u8],
+    to: Stream<S, F>,
+    written: io::Result<()>,
+) -> bool
+    ensures { result ≡ is_ok written }
 {
-    if !written {
-        fail(name);
+    drop(to);
+    match written {
+        Ok(()) => true,
+        Err(error) => {
+            fail(rt, name, error);
+            false
+        }
     }
-    if name.len() != 0 {
-        libc::close(fd);
-    }
-    written
 }

@@ -4,25 +4,26 @@
 ghost use Rattle.std.specs.Prelude.{◌≡◌, take};
 ghost use Rattle.input.specs.Within.{Within};
 
+use std::io::{Error, Read};
+
 #[derive(Clone, Copy)]
 pub enum Input {
     // So many bytes stand at the start of the buffer: all of the input, or as many as there is
     // space for.
     Bytes(usize),
-    // The system refused a read.
-    Failed,
+    // The system refused a read, and why.
+    Failed(Error),
 }
 
-pub fn read_all(fd: i32, buffer: &mut [u8]) -> Input
+pub fn read_all<R: Read>(input: &mut R, buffer: &mut [u8]) -> Input
     ensures { Within result buffer.new }
 {
     let mut held: usize = 0;
     while held < buffer.len() {
-        let got = libc::read(fd, &mut buffer[held..]);
-        if got < 0 {
-            return Input::Failed;
-        }
-        let n = io::count(got, &buffer[held..]);
+        let n = match input.read(&mut buffer[held..]) {
+            Ok(n) => n,
+            Err(e) => return Input::Failed(e),
+        };
         if n == 0 {
             return Input::Bytes(held);
         }

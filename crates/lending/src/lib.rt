@@ -11,7 +11,7 @@ ghost use Rattle.base.specs.RefusalNumbers.{refusal_number};
 ghost use Rattle.controller.specs.Arrives.{arrived};
 ghost use Rattle.controller.specs.Ask as ask;
 ghost use Rattle.controller.specs.DataByte as plane;
-ghost use Rattle.controller.specs.Lent.{before, after, Gives};
+ghost use Rattle.controller.specs.World.{buffers, world};
 ghost use Rattle.controller.specs.TurnedBack.{turned_back};
 
 use arriving::arrive;
@@ -44,7 +44,8 @@ fn turned_back(
     picture: &[u8],
     rows: &[u64],
 ) -> Refusal
-    ensures { Gives (turned_back asserted at) p (refusal_number result) old new states picture rows }
+    ensures { refusal_number result
+        ≡ turned_back asserted at (world p (buffers old.now new.now states.now picture.now rows.now)) }
 {
     if foreign(p) {
         return Refusal::ForeignRecord;
@@ -77,8 +78,10 @@ pub fn come(
     picture: &mut [u8],
     rows: &[u64],
 ) -> Refusal
-    ensures gives { Gives (turned_back asserted at) p (refusal_number result) old new states picture rows }
-    ensures rows_value { after old new states picture rows ≡ come_to asserted at p (before old new states picture rows) }
+    ensures gives { refusal_number result
+        ≡ turned_back asserted at (world p (buffers old.old new.now states.old picture.old rows.now)) }
+    ensures rows_value { buffers old.new new.now states.new picture.new rows.now
+        ≡ come_to asserted at p (buffers old.old new.now states.old picture.old rows.now) }
 {
     let refused = turned_back(p, at, asserted, old, new, states, picture, rows);
     if refused.none() {

@@ -4,7 +4,8 @@
 ghost use Rattle.std.specs.Prelude.{◌≡◌};
 ghost use Rattle.controller.specs.TurnedBack as tests;
 ghost use Rattle.controller.specs.Calls as calls;
-ghost use Rattle.controller.specs.Lent.{before, Makes};
+ghost use Rattle.controller.specs.Lent.{Makes};
+ghost use Rattle.controller.specs.World.{buffers};
 ghost use Rattle.base.specs.RefusalNumbers.{refusal_number};
 
 use base::Refusal;
@@ -149,7 +150,8 @@ fn making_refused(
     picture: &[u8],
     rows: &[u64],
 ) -> Refusal
-    ensures { refusal_number result ≡ tests.making_refused config (before old new states picture rows) }
+    ensures { refusal_number result ≡ tests.making_refused config
+        (buffers old.now new.now states.now picture.now rows.now) }
 {
     let refused = config.validate();
     if refused.none() {

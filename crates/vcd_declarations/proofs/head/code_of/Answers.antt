@@ -1,4 +1,5 @@
 use borrow.Author.Tests.{ne_eqb}
+use native.Mathlib.Omega.{arith}
 use Rattle.vcd_declarations.proofs.head.code_of.Goals as goal
 
 -- src/head.rt:100:1
@@ -19,4 +20,4 @@ returns-in-3 c = simp c.in-3.is
 
 -- src/head.rt:100:1
 pub returns-in_default : goal.returns-in_default
-returns-in_default c = simp (ne_eqb _ _ c.in_default.in_default-own.rest.0.0.0.1, ne_eqb _ _ c.in_default.in_default-own.rest.0.0.1, ne_eqb _ _ c.in_default.in_default-own.rest.0.1, ne_eqb _ _ c.in_default.in_default-own.rest.1)
+returns-in_default c = simp (ne_eqb c.args.signal 0 (omega arith), ne_eqb c.args.signal 1 (omega arith), ne_eqb c.args.signal 2 (omega arith), ne_eqb c.args.signal 3 (omega arith))

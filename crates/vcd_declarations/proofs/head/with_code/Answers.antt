@@ -1,6 +1,7 @@
 use borrow.Author.Tests.{lt-ltb}
 use Rattle.vcd_declarations.proofs.HeadLaws.{above_three}
 use borrow.Author.Tests.{lt-ltb, ne_eqb}
+use native.Mathlib.Omega.{arith}
 use Rattle.vcd_declarations.proofs.head.with_code.Goals as goal
 
 -- src/head.rt:117:1
@@ -22,9 +23,9 @@ returns-in-3 c = simp c.in-3.is
 -- src/head.rt:117:1
 pub returns-in_default : goal.returns-in_default
 returns-in_default c = simp (
-  ne_eqb _ _ c.in_default.in_default-own.rest.0.0.0.1,
-  ne_eqb _ _ c.in_default.in_default-own.rest.0.0.1,
-  ne_eqb _ _ c.in_default.in_default-own.rest.0.1,
-  ne_eqb _ _ c.in_default.in_default-own.rest.1,
-  lt-ltb 3 _ (above_three _ c.in_default.in_default-own.rest.0.0.0.1 c.in_default.in_default-own.rest.0.0.1 c.in_default.in_default-own.rest.0.1 c.in_default.in_default-own.rest.1),
+  ne_eqb c.args.signal 0 (omega arith),
+  ne_eqb c.args.signal 1 (omega arith),
+  ne_eqb c.args.signal 2 (omega arith),
+  ne_eqb c.args.signal 3 (omega arith),
+  lt-ltb 3 _ (above_three c.args.signal (omega arith) (omega arith) (omega arith) (omega arith)),
 )

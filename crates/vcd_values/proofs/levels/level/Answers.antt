@@ -2,8 +2,9 @@
 use mathlib.Core.Path.{◌≡◌, refl, sym, ap}
 use mathlib.Core.List.{List, [], ◌∷◌}
 use Prim.Native.Nat.{ℕ}
+use native.Mathlib.Omega.{arith}
 use borrow.Author.Tests.{ne_eqb}
-use Rattle.base.proofs.Sorting.{at_key, no_key}
+use Rattle.base.proofs.Sorting.{at_key}
 use Rattle.vcd_values.specs.Levels.{unknown, level}
 use Rattle.vcd_values.proofs.levels.level.Goals as goal
 
@@ -26,5 +27,11 @@ pub returns-in_default : goal.returns-in_default
 unfolding level
 returns-in_default c =
     let b = c.args.b in
-    let rest = c.in_default.in_default-own.rest in
-    simp (ne_eqb b 48 rest.0.0.1, ne_eqb b 49 rest.0.1, no_key (neither ∷ []) b (tt, rest.1))
+    simp (
+      ne_eqb b 48 (grind arith),
+      ne_eqb b 49 (grind arith),
+      ne_eqb b 0x58 (grind arith),
+      ne_eqb b 0x5a (grind arith),
+      ne_eqb b 0x78 (grind arith),
+      ne_eqb b 0x7a (grind arith),
+    )

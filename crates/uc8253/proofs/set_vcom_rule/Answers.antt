@@ -1,0 +1,14 @@
+-- `uc8253::set_vcom_rule` meets its contract: the call comes, and then the rule (`call_accepted`); or it is turned back (`call_refused`).
+use Rattle.controller.specs.Ask.{new_after, rows_after}
+use Rattle.controller.specs.Ask as ask
+use Rattle.uc8253.proofs.Calls.{call_accepted, call_refused}
+use mathlib.Core.Path.{refl}
+use borrow.Author.Rules.{rules}
+use Rattle.uc8253.proofs.set_vcom_rule.Goals as goal
+
+pub returns-then-none : goal.returns-then-none
+unfolding new_after rows_after
+returns-then-none c = call_accepted (ask.vcom_rule c.args.at c.args.by_frame) refl _ _ c.come-refused.ensures c.none.ensures c.if-none.true c.after_rule-chip.ensures refl refl refl
+
+pub returns : goal.returns
+returns c = call_refused (ask.vcom_rule c.args.at c.args.by_frame) refl _ _ c.come-refused.ensures c.none.ensures c.if-none.false
