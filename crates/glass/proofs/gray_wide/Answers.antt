@@ -50,7 +50,6 @@ pub loop-left-init : goal.loop-left-init
 loop-left-init c = (
   digits_none c.args.state c.args.swing (omega arith) (c.args.top / 2 ^ c.args.digits) (div-eq_of_lt c.requires.1),
   c.requires.2,
-
 )
 
 pub carried-twice-requires : goal.carried-twice-requires

@@ -9,8 +9,8 @@ use Rattle.questions.proofs.ram_bit.Goals as goal
 
 pub returns-then-none : goal.returns-then-none
 unfolding bit_refused bit_answer
-returns-then-none c = record { asked = λ b. (c.lent_refused-refused.ensures, ap ask.bit (yes _ (told c.none.ensures c.lent_refused-refused.ensures c.if-none.true) c.ram_bit-found.ensures)); asked_2 = λ b. (c.lent_refused-refused.ensures, ap ask.bit (yes _ (told c.none.ensures c.lent_refused-refused.ensures c.if-none.true) c.ram_bit-found.ensures)); }
+returns-then-none c = record { asked = λ b. (c.lent_refused-refused.ensures, ap ask.bit (yes _ (told c.none.ensures c.lent_refused-refused.ensures c.if-none.true) c.ram_bit-found.ensures)); asked_2 = λ b. (c.lent_refused-refused.ensures, ap ask.bit (yes _ (told c.none.ensures c.lent_refused-refused.ensures c.if-none.true) c.ram_bit-found.ensures)) }
 
 pub returns : goal.returns
 unfolding bit_refused bit_answer
-returns c = record { asked = λ b. (c.lent_refused-refused.ensures, ap ask.bit (no _ (told c.none.ensures c.lent_refused-refused.ensures c.if-none.false) refl)); asked_2 = λ b. (c.lent_refused-refused.ensures, ap ask.bit (no _ (told c.none.ensures c.lent_refused-refused.ensures c.if-none.false) refl)); }
+returns c = record { asked = λ b. (c.lent_refused-refused.ensures, ap ask.bit (no _ (told c.none.ensures c.lent_refused-refused.ensures c.if-none.false) refl)); asked_2 = λ b. (c.lent_refused-refused.ensures, ap ask.bit (no _ (told c.none.ensures c.lent_refused-refused.ensures c.if-none.false) refl)) }

@@ -13,10 +13,10 @@ unfolding did_by record_after lent_after old_after new_after rows_after taking_r
 returns-then-none c =
     let test = c.before.before in
     let refused = test.lent_refused-refused.ensures in
-    let h = told test.none.ensures refused test.if-none.true in record { turns_rows = λ b. yes _ h (simp c.taken-q.ensures); asked = λ b. (refused, ap ask.count (yes _ h refl)); }
+    let h = told test.none.ensures refused test.if-none.true in record { turns_rows = λ b. yes _ h (simp c.taken-q.ensures); asked = λ b. (refused, ap ask.count (yes _ h refl)) }
 
 pub returns : goal.returns
 unfolding did_by taking_refused taken_rows
 returns c =
     let refused = c.lent_refused-refused.ensures in
-    let h = told c.none.ensures refused c.if-none.false in record { turns_rows = λ b. no _ h refl; asked = λ b. (refused, ap ask.count (no _ h refl)); }
+    let h = told c.none.ensures refused c.if-none.false in record { turns_rows = λ b. no _ h refl; asked = λ b. (refused, ap ask.count (no _ h refl)) }

@@ -8,7 +8,7 @@ use Rattle.uc8253.proofs.advance.Goals as goal
 
 pub returns-then-none : goal.returns-then-none
 unfolding new_after rows_after
-returns-then-none c = call_accepted (ask.advance c.args.at) refl _ _ c.come-refused.ensures c.none.ensures c.if-none.true c.after_advance-chip.ensures refl refl refl
+returns-then-none c = call_accepted (ask.advance c.args.at) refl _ _ (c.come-refused.ensures.gives, c.come-refused.ensures.rows_value) c.none.ensures c.if-none.true c.after_advance-chip.ensures refl refl refl
 
 pub returns : goal.returns
-returns c = call_refused (ask.advance c.args.at) refl _ _ c.come-refused.ensures c.none.ensures c.if-none.false
+returns c = call_refused (ask.advance c.args.at) refl _ _ (c.come-refused.ensures.gives, c.come-refused.ensures.rows_value) c.none.ensures c.if-none.false

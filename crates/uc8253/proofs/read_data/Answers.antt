@@ -17,7 +17,7 @@ shape_of-picture-then-none c = c.come-refused.auto.picture
 
 pub returns-then-none : goal.returns-then-none
 unfolding new_after
-returns-then-none c = record { called = call_accepted (ask.reading c.args.at) refl _ _ c.come-refused.ensures c.none.ensures c.if-none.true c.after_read-chip.ensures refl refl c.lend_read.ensures; answers = read_accepted _ _ _ c.come-refused.ensures.gives c.none.ensures c.if-none.true c.arrive.ensures c.Read-of.ensures; }
+returns-then-none c = record { called = call_accepted (ask.reading c.args.at) refl _ _ (c.come-refused.ensures.gives, c.come-refused.ensures.rows_value) c.none.ensures c.if-none.true c.after_read-chip.ensures refl refl c.lend_read.ensures; answers = read_accepted _ _ _ c.come-refused.ensures.gives c.none.ensures c.if-none.true c.arrive.ensures c.read_of-byte.ensures }
 
 pub returns : goal.returns
-returns c = record { called = call_refused (ask.reading c.args.at) refl _ _ c.come-refused.ensures c.none.ensures c.if-none.false; answers = read_refused _ _ _ c.come-refused.ensures.gives c.none.ensures c.if-none.false; }
+returns c = record { called = call_refused (ask.reading c.args.at) refl _ _ (c.come-refused.ensures.gives, c.come-refused.ensures.rows_value) c.none.ensures c.if-none.false; answers = read_refused _ _ _ c.come-refused.ensures.gives c.none.ensures c.if-none.false }

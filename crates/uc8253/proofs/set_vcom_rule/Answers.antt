@@ -8,7 +8,7 @@ use Rattle.uc8253.proofs.set_vcom_rule.Goals as goal
 
 pub returns-then-none : goal.returns-then-none
 unfolding new_after rows_after
-returns-then-none c = call_accepted (ask.vcom_rule c.args.at c.args.by_frame) refl _ _ c.come-refused.ensures c.none.ensures c.if-none.true c.after_rule-chip.ensures refl refl refl
+returns-then-none c = call_accepted (ask.vcom_rule c.args.at c.args.by_frame) refl _ _ (c.come-refused.ensures.gives, c.come-refused.ensures.rows_value) c.none.ensures c.if-none.true c.after_rule-chip.ensures refl refl refl
 
 pub returns : goal.returns
-returns c = call_refused (ask.vcom_rule c.args.at c.args.by_frame) refl _ _ c.come-refused.ensures c.none.ensures c.if-none.false
+returns c = call_refused (ask.vcom_rule c.args.at c.args.by_frame) refl _ _ (c.come-refused.ensures.gives, c.come-refused.ensures.rows_value) c.none.ensures c.if-none.false

@@ -11,7 +11,7 @@ shape_of-old-then-none c = c.come-refused.auto.old
 
 pub returns-then-none : goal.returns-then-none
 unfolding new_after
-returns-then-none c = call_accepted (ask.command c.args.at c.args.command) refl _ _ c.come-refused.ensures c.none.ensures c.if-none.true c.after_command-chip.ensures refl refl c.lend_command.ensures
+returns-then-none c = call_accepted (ask.command c.args.at c.args.command) refl _ _ (c.come-refused.ensures.gives, c.come-refused.ensures.rows_value) c.none.ensures c.if-none.true c.after_command-chip.ensures refl refl c.lend_command.ensures
 
 pub returns : goal.returns
-returns c = call_refused (ask.command c.args.at c.args.command) refl _ _ c.come-refused.ensures c.none.ensures c.if-none.false
+returns c = call_refused (ask.command c.args.at c.args.command) refl _ _ (c.come-refused.ensures.gives, c.come-refused.ensures.rows_value) c.none.ensures c.if-none.false

@@ -15,7 +15,7 @@ pub shape_of-picture-then-none : goal.shape_of-picture-then-none
 shape_of-picture-then-none c = c.come-refused.auto.picture
 
 pub returns-then-none : goal.returns-then-none
-returns-then-none c = call_accepted (ask.datum c.args.at c.args.byte) refl _ _ c.come-refused.ensures c.none.ensures c.if-none.true c.after_data-chip.ensures c.lend_data.ensures.0 c.lend_data.ensures.1 c.lend_data.ensures.2
+returns-then-none c = call_accepted (ask.datum c.args.at c.args.byte) refl _ _ (c.come-refused.ensures.gives, c.come-refused.ensures.rows_value) c.none.ensures c.if-none.true c.after_data-chip.ensures c.lend_data.ensures.0 c.lend_data.ensures.1 c.lend_data.ensures.2
 
 pub returns : goal.returns
-returns c = call_refused (ask.datum c.args.at c.args.byte) refl _ _ c.come-refused.ensures c.none.ensures c.if-none.false
+returns c = call_refused (ask.datum c.args.at c.args.byte) refl _ _ (c.come-refused.ensures.gives, c.come-refused.ensures.rows_value) c.none.ensures c.if-none.false

@@ -12,5 +12,4 @@ pub returns : goal.returns
 returns c = (
   (λ i. c.wide.ensures.0 i * c.round_frames.ensures.0 i),
   mul-le-mul c.wide.ensures.1 c.round_frames.ensures.1,
-
 )

@@ -8,5 +8,4 @@ returns c = λ i. record {
   down = c.net-2.ensures i;
   lo = c.apply.ensures i;
   hi = c.apply-2.ensures i;
-
 }

@@ -13,12 +13,12 @@ drive_first-requires c = let g = c.args in (c.requires.0, c.requires.1 (first_en
 
 pub returns-in-Nothing : goal.returns-in-Nothing
 returns-in-Nothing c = let g = c.args in
-    let whole = settled_by g.asserted g.at g.p drive.Nothing g.old.now g.new.now g.states.now g.picture.now (sym c.drive_at-how.ensures ∙ c.in-Nothing.is) refl refl refl in record { after = whole.0; states_after = whole.1.0; picture_after = whole.1.1; }
+    let whole = settled_by g.asserted g.at g.p drive.Nothing g.old.now g.new.now g.states.now g.picture.now (sym c.drive_at-how.ensures ∙ c.in-Nothing.is) refl refl refl in record { after = whole.0; states_after = whole.1.0; picture_after = whole.1.1 }
 
 pub returns-in-Whole : goal.returns-in-Whole
 returns-in-Whole c = let g = c.args in
-    let whole = settled_by g.asserted g.at g.p drive.Whole g.old.now g.new.now g.states.now g.picture.now (sym c.drive_at-how.ensures ∙ c.in-Whole.is) c.copy_after.ensures c.drive_whole.ensures c.draw.ensures in record { after = whole.0; states_after = whole.1.0; picture_after = whole.1.1; }
+    let whole = settled_by g.asserted g.at g.p drive.Whole g.old.now g.new.now g.states.now g.picture.now (sym c.drive_at-how.ensures ∙ c.in-Whole.is) c.copy_after.ensures c.drive_whole.ensures c.draw.ensures in record { after = whole.0; states_after = whole.1.0; picture_after = whole.1.1 }
 
 pub returns-in-First : goal.returns-in-First
 returns-in-First c = let g = c.args in
-    let whole = settled_by g.asserted g.at g.p _ g.old.now g.new.now g.states.now g.picture.now (sym c.drive_at-how.ensures ∙ c.in-First.is) refl c.drive_first.ensures c.draw-in-First.ensures in record { after = whole.0; states_after = whole.1.0; picture_after = whole.1.1; }
+    let whole = settled_by g.asserted g.at g.p _ g.old.now g.new.now g.states.now g.picture.now (sym c.drive_at-how.ensures ∙ c.in-First.is) refl c.drive_first.ensures c.draw-in-First.ensures in record { after = whole.0; states_after = whole.1.0; picture_after = whole.1.1 }
