@@ -1,4 +1,4 @@
-// A record's picture at a top of its own, drawn from its states, to a descriptor (2026-03).
+// A record's picture at a top of its own, drawn from its states, to an output (2026-03).
 #![tactic(auto)]
 
 ghost use Rattle.std.specs.Prelude.{◌≡◌, ◌-◌, ◌≤◌, replicate};
@@ -11,6 +11,8 @@ use controller::Uc8253;
 use outcome::came_by;
 use output::{Form, Outcome, wide_count, wide_part};
 use questions::wide_picture;
+use std::io;
+use std::io::{Error, ErrorKind, Write};
 
 // What is written of a panel: its form, and, of a picture, whether it is drawn at a top of its own.
 #[derive(Clone, Copy)]
@@ -28,32 +30,32 @@ const ROOM: usize = 8_192;
 
 // Writes the bytes, which are the picture's from one unit up to another, and answers whether they
 // could be written. What they are of is named for the condition alone.
-fn emit(
+fn emit<W: Write>(
     form: Form,
     top: u16,
-    fd: i32,
+    to: &mut W,
     p: Uc8253,
     states: &[i64],
     from: usize,
     next: usize,
     bytes: &[u8],
-) -> bool
+) -> io::Result<()>
     requires { bytes.now ≡ units_from from (next - from) (spec.shades_of form top p states.now) }
 {
-    io::write_all(fd, bytes)
+    to.write_all(bytes)
 }
 
 // All units, part by part, up to a write that fails.
-fn write_parts(
+fn write_parts<W: Write>(
     text: &mut [u8],
     form: Form,
     top: u16,
-    fd: i32,
+    to: &mut W,
     p: Uc8253,
     states: &[i64],
     o: Outcome,
     wide: &[u16],
-) -> bool
+) -> io::Result<()>
     requires { wide_of form (top_of top) o wide.now ≡ spec.shades_of form top p states.now }
 {
     let end = wide_count(form, o);
@@ -63,18 +65,23 @@ fn write_parts(
         let held = part.held;
         let next = part.next;
         if next == from {
-            return false;
+            return Err(Error::from(ErrorKind::WriteZero));
         }
-        if !emit(form, top, fd, p, states, from, next, &text[..held]) {
-            return false;
-        }
+        emit(form, top, to, p, states, from, next, &text[..held])?;
         from = next;
     }
-    true
+    Ok(())
 }
 
 // The picture in a buffer that has an entry for each pixel.
-fn write_in(form: Form, top: u16, fd: i32, p: Uc8253, states: &[i64], wide: &mut [u16]) -> bool
+fn write_in<W: Write>(
+    form: Form,
+    top: u16,
+    to: &mut W,
+    p: Uc8253,
+    states: &[i64],
+    wide: &mut [u16],
+) -> io::Result<()>
     requires { wide.old ≡ replicate (spec.room p) 0 }
 {
     let refused = wide_picture(p, states, wide, top);
@@ -83,7 +90,7 @@ fn write_in(form: Form, top: u16, fd: i32, p: Uc8253, states: &[i64], wide: &mut
     let image = p.image;
     let o = Outcome { came, log, image };
     let mut text = [0u8; ROOM];
-    write_parts(&mut text, form, top, fd, p, states, o, wide)
+    write_parts(&mut text, form, top, to, p, states, o, wide)
 }
 
 fn room(p: Uc8253) -> usize
@@ -95,8 +102,14 @@ fn room(p: Uc8253) -> usize
 
 // The picture of the states at a top, 0 standing for 255; the answer is whether all of it could be
 // written.
-pub fn write(form: Form, top: u16, fd: i32, p: Uc8253, states: &[i64]) -> bool {
+pub fn write<W: Write>(
+    form: Form,
+    top: u16,
+    to: &mut W,
+    p: Uc8253,
+    states: &[i64],
+) -> io::Result<()> {
     let mut wide = [0u16; PIXELS];
     let n = room(p);
-    write_in(form, top, fd, p, states, &mut wide[..n])
+    write_in(form, top, to, p, states, &mut wide[..n])
 }

@@ -17,13 +17,14 @@ ghost use Rattle.shades.specs.Shades.{shades_of};
 
 use capture::{Capture, MOST_EVENTS, MOST_PIXELS};
 use controller::Uc8253;
-use libc::STDOUT_FILENO;
 use diagnostic_log::ROWS;
 use outcome::{Came, came_by, panel_came};
 pub use output::Form;
 use output::Outcome;
 use play::play;
 pub use play::tested;
+use std::io;
+use std::io::Write;
 use write::write;
 
 // A capture of the largest size and one byte more, so that a larger one is seen to be larger.
@@ -62,11 +63,11 @@ fn came_of(form: Form, file: &[u8], number: u8) -> Came
 }
 
 // The capture in buffers of its panel's size: played, and then written. What was lent has the sizes.
-fn show_in(
+fn show_in<W: Write>(
     file: &[u8],
     c: Capture,
     form: Form,
-    fd: i32,
+    to: &mut W,
     sizes: Sizes,
     answers: &mut [u16],
     old: &mut [u8],
@@ -74,7 +75,7 @@ fn show_in(
     states: &mut [i64],
     picture: &mut [u8],
     rows: &mut [u64],
-) -> bool
+) -> io::Result<()>
     requires reads { Reads file.now c }
     requires fits { Fits file.now sizes (lent old new states picture rows) }
     requires answers_value { answers.old ≡ lent_answers }
@@ -90,7 +91,7 @@ fn show_in(
     let came = came_of(form, file, number);
     let o = Outcome { came, log, image };
     let end = c.end;
-    write(file, end, form, fd, sizes, o, answers, picture, rows)
+    write(file, end, form, to, sizes, o, answers, picture, rows)
 }
 
 // So many entries of those that there are.
@@ -100,18 +101,18 @@ fn cut(most: usize, have: usize) -> usize
     if most < have { most } else { have }
 }
 
-// The capture in the front of what is lent, written to the descriptor; the answer is whether all of
+// The capture in the front of what is lent, written to the output; the answer is whether all of
 // it could be written.
-pub fn show(
+pub fn show<W: Write>(
     file: &[u8],
     form: Form,
-    fd: i32,
+    to: &mut W,
     old: &mut [u8],
     new: &mut [u8],
     states: &mut [i64],
     picture: &mut [u8],
     rows: &mut [u64],
-) -> bool
+) -> io::Result<()>
     ensures { after old new states picture rows
         ≡ left_by form file.now (before old new states picture rows) }
 {
@@ -132,7 +133,7 @@ pub fn show(
         file,
         c,
         form,
-        fd,
+        to,
         sizes,
         &mut answers,
         old,
@@ -145,19 +146,27 @@ pub fn show(
 
 // Writes the picture at a top that playing the file left. What it is of, and the sizes lent, are named
 // for the condition alone.
-fn tone(file: &[u8], form: Form, top: u16, fd: i32, sizes: Sizes, p: Uc8253, states: &[i64]) -> bool
+fn tone<W: Write>(
+    file: &[u8],
+    form: Form,
+    top: u16,
+    to: &mut W,
+    sizes: Sizes,
+    p: Uc8253,
+    states: &[i64],
+) -> io::Result<()>
     requires { shades_of form top p states.now ≡ shaded_of form top file.now sizes }
 {
-    shades::write(form, top, fd, p, states)
+    shades::write(form, top, to, p, states)
 }
 
 // The capture in buffers of its panel's size: played, and then its picture at a top.
-fn shade_in(
+fn shade_in<W: Write>(
     file: &[u8],
     c: Capture,
     form: Form,
     top: u16,
-    fd: i32,
+    to: &mut W,
     sizes: Sizes,
     answers: &mut [u16],
     old: &mut [u8],
@@ -165,7 +174,7 @@ fn shade_in(
     states: &mut [i64],
     picture: &mut [u8],
     rows: &mut [u64],
-) -> bool
+) -> io::Result<()>
     requires reads { Reads file.now c }
     requires fits { Fits file.now sizes (lent old new states picture rows) }
     ensures { after old new states picture rows
@@ -173,22 +182,22 @@ fn shade_in(
 {
     let played = play(form, file, c, answers, old, new, states, picture, rows);
     let chip = played.chip;
-    tone(file, form, top, fd, sizes, chip, states)
+    tone(file, form, top, to, sizes, chip, states)
 }
 
 // The capture in the front of what is lent, and its picture at a top, 0 standing for 255, written to
-// the descriptor; the answer is whether all of it could be written (2026-03).
-pub fn shade(
+// the output; the answer is whether all of it could be written (2026-03).
+pub fn shade<W: Write>(
     file: &[u8],
     form: Form,
     top: u16,
-    fd: i32,
+    to: &mut W,
     old: &mut [u8],
     new: &mut [u8],
     states: &mut [i64],
     picture: &mut [u8],
     rows: &mut [u64],
-) -> bool
+) -> io::Result<()>
     ensures { after old new states picture rows
         ≡ left_by form file.now (before old new states picture rows) }
 {
@@ -210,7 +219,7 @@ pub fn shade(
         c,
         form,
         top,
-        fd,
+        to,
         sizes,
         &mut answers,
         old,
@@ -223,23 +232,25 @@ pub fn shade(
 
 // The capture as `panel` writes it, over the two lent planes, which then hold what its last event
 // left in them.
-pub fn show_panel(file: &[u8], old: &mut [u8], new: &mut [u8])
+pub fn show_panel<R: Print + Eprint>(rt: &R, file: &[u8], old: &mut [u8], new: &mut [u8])
     ensures after { old.new ≡ (left_by Form.Panel file.now (panel_lent old.old new.old)).old }
     ensures after_2 { new.new ≡ (left_by Form.Panel file.now (panel_lent old.old new.old)).new }
 {
     let mut states = [0i64; MOST_PIXELS];
     let mut picture = [0u8; MOST_PIXELS];
     let mut rows = [0u64; ROWS];
-    if !show(
+    let mut to = io::writer(rt);
+    let written = show(
         file,
         Form::Panel,
-        STDOUT_FILENO,
+        &mut to,
         old,
         new,
         &mut states,
         &mut picture,
         &mut rows,
-    ) {
-        io::write_all(libc::STDERR_FILENO, b"could not write to standard output\n");
+    );
+    if written.is_err() {
+        let _ = eprintln!(rt; "could not write to standard output");
     }
 }

@@ -1,4 +1,4 @@
-// The text of a capture that was played, to a descriptor.
+// The text of a capture that was played, to an output.
 ghost use Rattle.std.specs.Prelude.{◌≡◌};
 ghost use Rattle.output.specs.Units.{units_of};
 ghost use Rattle.capture.specs.Reading.{events_end, events_of};
@@ -6,39 +6,41 @@ ghost use Rattle.showing.specs.Output.{Output, Between};
 
 use crate::Sizes;
 use output::{Form, Outcome, count, next_part};
+use std::io;
+use std::io::{Error, ErrorKind, Write};
 
 // The bytes of the buffer: most outputs take one write.
 const ROOM: usize = 8_192;
 
 // Writes the bytes, which are the file's output from one unit up to another, and answers whether
 // they could be written. What they are of, and the sizes lent, are named for the condition alone.
-fn emit(
+fn emit<W: Write>(
     file: &[u8],
     form: Form,
-    fd: i32,
+    to: &mut W,
     sizes: Sizes,
     from: usize,
     next: usize,
     bytes: &[u8],
-) -> bool
+) -> io::Result<()>
     requires { Between form file.now sizes from next bytes.now }
 {
-    io::write_all(fd, bytes)
+    to.write_all(bytes)
 }
 
 // All units, part by part, up to a write that fails.
-fn write_parts(
+fn write_parts<W: Write>(
     text: &mut [u8],
     file: &[u8],
     form: Form,
-    fd: i32,
+    to: &mut W,
     sizes: Sizes,
     o: Outcome,
     events: &[u8],
     answers: &[u16],
     picture: &[u8],
     rows: &[u64],
-) -> bool
+) -> io::Result<()>
     requires { Output form file.now sizes (units_of form o events.now answers.now picture.now rows.now) }
 {
     let end = count(form, o, events);
@@ -48,28 +50,26 @@ fn write_parts(
         let held = part.held;
         let next = part.next;
         if next == from {
-            return false;
+            return Err(Error::from(ErrorKind::WriteZero));
         }
-        if !emit(file, form, fd, sizes, from, next, &text[..held]) {
-            return false;
-        }
+        emit(file, form, to, sizes, from, next, &text[..held])?;
         from = next;
     }
-    true
+    Ok(())
 }
 
 // What the capture came to, whose events end there.
-pub(crate) fn write(
+pub(crate) fn write<W: Write>(
     file: &[u8],
     end: usize,
     form: Form,
-    fd: i32,
+    to: &mut W,
     sizes: Sizes,
     o: Outcome,
     answers: &[u16],
     picture: &[u8],
     rows: &[u64],
-) -> bool
+) -> io::Result<()>
     requires end_value { end ≡ events_end file.now }
     requires output { Output form file.now sizes (units_of form o (events_of file.now) answers.now picture.now rows.now) }
 {
@@ -78,7 +78,7 @@ pub(crate) fn write(
         &mut text,
         file,
         form,
-        fd,
+        to,
         sizes,
         o,
         &file[..end],

@@ -3,8 +3,7 @@
 #![tactic(auto)]
 
 ghost use Rattle.std.specs.Prelude.{◌≡◌, ◌≤◌};
-ghost use Rattle.controller.specs.World.{world};
-ghost use Rattle.controller.specs.Lent.{before, after};
+ghost use Rattle.controller.specs.World.{buffers, world};
 ghost use Rattle.controller.specs.DataByte.{put_at};
 ghost use Rattle.event.specs.Events.{events_in};
 ghost use Rattle.streams.specs.InnerStretch as rule;
@@ -249,7 +248,8 @@ fn stream_within(
 ) -> Flowed
     requires { from ≤ events_in events.now }
     ensures { rule.Stretch events.now from result.done
-        (world p (before old new states picture rows)) (world result.chip (after old new states picture rows)) }
+        (world p (buffers old.old new.old states.now picture.now rows.now))
+        (world result.chip (buffers old.new new.new states.now picture.now rows.now)) }
 {
     let stage = p.stage;
     let config = p.config;
@@ -291,7 +291,8 @@ pub fn stream(
     rows: &[u64],
 ) -> Flowed
     ensures { rule.Stretch events.now from result.done
-        (world p (before old new states picture rows)) (world result.chip (after old new states picture rows)) }
+        (world p (buffers old.old new.old states.now picture.now rows.now))
+        (world result.chip (buffers old.new new.new states.now picture.now rows.now)) }
 {
     if from <= events.len() / EVENT_BYTES {
         return stream_within(p, events, from, old, new, states, picture, rows);

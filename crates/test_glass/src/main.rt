@@ -7,24 +7,42 @@ mod print;
 mod refresh;
 mod table;
 
-use libc::STDIN_FILENO;
+ghost use Rattle.std.specs.Prelude.{◌≤◌, length};
+
+use std::io::{Input, Read};
 use table::Table;
 
-fn replay(s: &[u8]) {
-    let levels = table::compared(Table::Level, s, 0);
-    print::summary(Table::Level, levels);
-    let grays = table::compared(Table::Gray, s, levels.next);
-    print::summary(Table::Gray, grays);
-    let refreshes = table::compared(Table::Refresh, s, grays.next);
-    print::summary(Table::Refresh, refreshes);
-    let ruled = table::compared(Table::Ruled, s, refreshes.next);
-    print::summary(Table::Ruled, ruled);
-    let wide = table::compared(Table::Wide, s, ruled.next);
-    print::summary(Table::Wide, wide);
+// Reads until the buffer is full or the input ends: a read that fails ends it too.
+fn read_full<I: Read>(input: &mut I, buffer: &mut [u8]) -> usize
+    ensures { result ≤ length buffer.new }
+{
+    let mut held: usize = 0;
+    while held < buffer.len() {
+        let n = input.read(&mut buffer[held..]).unwrap_or(0);
+        if n == 0 {
+            return held;
+        }
+        held += n;
+    }
+    held
 }
 
-fn main() {
+fn replay<R: Print>(rt: &R, s: &[u8]) {
+    let levels = table::compared(rt, Table::Level, s, 0);
+    print::summary(rt, Table::Level, levels);
+    let grays = table::compared(rt, Table::Gray, s, levels.next);
+    print::summary(rt, Table::Gray, grays);
+    let refreshes = table::compared(rt, Table::Refresh, s, grays.next);
+    print::summary(rt, Table::Refresh, refreshes);
+    let ruled = table::compared(rt, Table::Ruled, s, refreshes.next);
+    print::summary(rt, Table::Ruled, ruled);
+    let wide = table::compared(rt, Table::Wide, s, ruled.next);
+    print::summary(rt, Table::Wide, wide);
+}
+
+fn main(rt: HostRuntime) {
     let mut buffer = [0u8; 2097152];
-    let n = io::read_full(STDIN_FILENO, &mut buffer);
-    replay(&buffer[..n]);
+    let mut input = rt.reader();
+    let n = read_full(&mut input, &mut buffer);
+    replay(&rt, &buffer[..n]);
 }

@@ -80,7 +80,7 @@ fn check_row(table: Table, s: &[u8], at: usize) -> Checked {
 }
 
 // A row that the text cuts short is not equal.
-fn compare_row(table: Table, s: &[u8], t: Tally) -> Tally {
+fn compare_row<R: Print>(rt: &R, table: Table, s: &[u8], t: Tally) -> Tally {
     let row = check_row(table, s, t.next);
     if row.same && row.next < s.len() {
         return Tally {
@@ -89,7 +89,7 @@ fn compare_row(table: Table, s: &[u8], t: Tally) -> Tally {
             next: row.next,
         };
     }
-    print::row(table, saturating_add(t.equal, t.different));
+    print::row(rt, table, saturating_add(t.equal, t.different));
     Tally {
         equal: t.equal,
         different: saturating_add(t.different, 1),
@@ -99,7 +99,7 @@ fn compare_row(table: Table, s: &[u8], t: Tally) -> Tally {
 
 // The table that begins at the place at. A text has fewer rows than bytes, so a larger count is not
 // believed.
-pub(crate) fn compared(table: Table, s: &[u8], at: usize) -> Tally {
+pub(crate) fn compared<R: Print>(rt: &R, table: Table, s: &[u8], at: usize) -> Tally {
     let rows = number(s, at);
     let mut left = least(rows.value, s.len() as u64);
     let mut t = Tally {
@@ -108,7 +108,7 @@ pub(crate) fn compared(table: Table, s: &[u8], at: usize) -> Tally {
         next: rows.next,
     };
     while 0 < left {
-        t = compare_row(table, s, t);
+        t = compare_row(rt, table, s, t);
         left -= 1;
     }
     t

@@ -1,0 +1,11 @@
+-- `shades::write_parts` meets what it calls asks: each part is units of the picture. The measure is the units that are left.
+use mathlib.Core.Path.{◌≡◌}
+use Prim.Native.Nat.{◌-◌}
+use lib.ListN.{length}
+use Rattle.shades.proofs.write_parts.Given as goal
+
+abbrev pub invariant-loop-from : goal.invariant-loop-from
+invariant-loop-from g l = length l.text ≡ length l.initial.text
+
+abbrev pub decreases-loop-from : goal.decreases-loop-from
+decreases-loop-from g l = l.end - l.from
