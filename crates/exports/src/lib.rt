@@ -8,7 +8,7 @@ mod taken;
 ghost use Rattle.std.specs.Prelude.{◌≡◌, true, false};
 ghost use Rattle.base.specs.RefusalNumbers.{refusal_number};
 ghost use Rattle.capture.specs.Layout.{config_in};
-ghost use Rattle.controller.specs.World.{Buffers, world};
+ghost use Rattle.controller.specs.World.{Buffers, buffers, world};
 ghost use Rattle.controller.specs.Setters.{with_old, with_new, with_states, with_rows};
 ghost use Rattle.controller.specs.Calls.{made};
 ghost use Rattle.controller.specs.Ask as ask;
@@ -237,7 +237,7 @@ fn turns_all_back(
     picture: &[u8],
     rows: &[u64],
 ) -> bool
-    ensures { result ≡ rule.turns_all_back p (before old new states picture rows) }
+    ensures { result ≡ rule.turns_all_back p (buffers old.now new.now states.now picture.now rows.now) }
 {
     if foreign(p) {
         return true;

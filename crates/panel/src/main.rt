@@ -3,22 +3,22 @@
 #![tactic(auto)]
 
 use input::{Input, front, read_all};
-use libc::{STDERR_FILENO, STDIN_FILENO};
 use showing::{INPUT, show_panel};
 
-fn run(file: &[u8]) {
+fn run<R: Print + Eprint>(rt: &R, file: &[u8]) {
     let mut old = [0u8; 60000];
     let mut new = [0u8; 60000];
-    show_panel(file, &mut old, &mut new);
+    show_panel(rt, file, &mut old, &mut new);
 }
 
-fn main() {
+fn main(rt: HostRuntime) {
     let mut buffer = [0u8; INPUT];
-    let got = read_all(STDIN_FILENO, &mut buffer);
+    let mut input = rt.reader();
+    let got = read_all(&mut input, &mut buffer);
     match got {
-        Input::Bytes(n) => run(front(&buffer, n)),
-        Input::Failed => {
-            io::write_all(STDERR_FILENO, b"could not read standard input\n");
+        Input::Bytes(n) => run(&rt, front(&buffer, n)),
+        Input::Failed(_) => {
+            let _ = eprintln!(rt; "could not read standard input");
         }
     }
 }
