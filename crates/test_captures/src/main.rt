@@ -2,12 +2,12 @@
 // first; on standard output what `panel` writes for each.
 #![tactic(auto)]
 
-ghost use Rattle.std.specs.Prelude.{◌≤◌};
+ghost use Rattle.std.specs.Prelude.{◌≤◌, length};
 
 use base::{TOP, least};
 use capture::little;
-use libc::STDIN_FILENO;
 use showing::{INPUT, show_panel};
+use std::io::Read;
 
 // The bytes of a length.
 const LENGTH: usize = 4;
@@ -15,32 +15,47 @@ const LENGTH: usize = 4;
 // The bytes that are passed over at a time.
 const CHUNK: usize = 4_096;
 
-fn run(file: &[u8]) {
+// Reads until the buffer is full or the input ends: a read that fails ends it too.
+fn read_full<I: Read>(input: &mut I, buffer: &mut [u8]) -> usize
+    ensures { result ≤ length buffer.new }
+{
+    let mut held: usize = 0;
+    while held < buffer.len() {
+        let n = input.read(&mut buffer[held..]).unwrap_or(0);
+        if n == 0 {
+            return held;
+        }
+        held += n;
+    }
+    held
+}
+
+fn run<R: Print + Eprint>(rt: &R, file: &[u8]) {
     let mut old = [0u8; 60000];
     let mut new = [0u8; 60000];
-    show_panel(file, &mut old, &mut new);
+    show_panel(rt, file, &mut old, &mut new);
 }
 
 // Plays the next bytes of the input, as many as there is space for, or those that are left.
-fn play_next(space: &mut [u8]) {
-    let n = io::read_full(STDIN_FILENO, space);
-    run(&space[..n]);
+fn play_next<R: Print + Eprint, I: Read>(rt: &R, input: &mut I, space: &mut [u8]) {
+    let n = read_full(input, space);
+    run(rt, &space[..n]);
 }
 
 // Passes over the next n bytes of the input, and answers whether there were so many.
-fn pass_some(n: usize) -> bool
+fn pass_some<I: Read>(input: &mut I, n: usize) -> bool
     requires { n ≤ 4096 }
 {
     let mut space = [0u8; CHUNK];
-    io::read_full(STDIN_FILENO, &mut space[..n]) == n
+    read_full(input, &mut space[..n]) == n
 }
 
 // Passes over so many bytes of the input, or those that are left.
-fn pass(count: u64) {
+fn pass<I: Read>(input: &mut I, count: u64) {
     let mut left = count;
     while 0 < left {
         let n = least(left, CHUNK as u64);
-        if !pass_some(n as usize) {
+        if !pass_some(input, n as usize) {
             return;
         }
         left -= n;
@@ -48,28 +63,29 @@ fn pass(count: u64) {
 }
 
 // A capture of that length. Of one that is larger than any that is played the rest is passed over.
-fn replay(length: u64) {
+fn replay<R: Print + Eprint, I: Read>(rt: &R, input: &mut I, length: u64) {
     let n = least(length, INPUT as u64);
     let mut buffer = [0u8; INPUT];
-    play_next(&mut buffer[..n as usize]);
-    pass(length - n);
+    play_next(rt, input, &mut buffer[..n as usize]);
+    pass(input, length - n);
 }
 
 // The next capture, and whether there was one.
-fn replay_next() -> bool {
+fn replay_next<R: Print + Eprint, I: Read>(rt: &R, input: &mut I) -> bool {
     let mut head = [0u8; LENGTH];
-    if io::read_full(STDIN_FILENO, &mut head) < LENGTH {
+    if read_full(input, &mut head) < LENGTH {
         return false;
     }
-    replay(little(&head, 0, LENGTH));
+    replay(rt, input, little(&head, 0, LENGTH));
     true
 }
 
 // Nothing says that an input ends, so the turns are counted; no input has so many.
-fn main() {
+fn main(rt: HostRuntime) {
+    let mut input = rt.reader();
     let mut turns = TOP;
     while 0 < turns {
-        if !replay_next() {
+        if !replay_next(&rt, &mut input) {
             return;
         }
         turns -= 1;

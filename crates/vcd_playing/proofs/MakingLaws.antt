@@ -18,9 +18,7 @@ use Rattle.controller.specs.World.{World, Buffers, world}
 use Rattle.controller.specs.TurnedBack.{making_refused}
 use Rattle.controller.specs.Calls.{made, zeros}
 use Rattle.controller.specs.declared.Answer.{Answer}
-use Rattle.event.specs.declared.Event.{Event}
 use Rattle.event.specs.Events.{event_done}
-use Rattle.vcd_words.specs.Words.{words}
 use Rattle.vcd_declarations.specs.declared.head.Begun.{Begun}
 use Rattle.vcd_declarations.specs.Begun.{Begins}
 use Rattle.vcd_simulation.specs.declared.body.Body.{Body}

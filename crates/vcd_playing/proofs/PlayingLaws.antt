@@ -12,7 +12,6 @@ use Rattle.vcd_words.specs.Words.{opened}
 use Rattle.vcd_simulation.specs.declared.body.Body.{Body}
 use Rattle.vcd_simulation.specs.declared.feeding.Fed.{Fed}
 use Rattle.vcd_simulation.specs.Simulation.{Codes, Went, words_done}
-use Rattle.vcd_simulation.specs.Written.{written}
 use Rattle.vcd_simulation.specs.Feed.{words_by, behind, Feeds}
 use Rattle.vcd_simulation.proofs.FeedLaws.{over_by}
 use Rattle.vcd.specs.Played.{calls}

@@ -11,4 +11,4 @@ pub slice_bounds-buffer-end : goal.slice_bounds-buffer-end
 slice_bounds-buffer-end c = c.read_full-n.ensures
 
 pub slice_bounds-replay-end : goal.slice_bounds-replay-end
-slice_bounds-replay-end c = ?
+slice_bounds-replay-end c = sym (length-take-le _ _ c.read_full-n.ensures)

@@ -1,6 +1,5 @@
 -- `vcd_playing::playing::finish` meets its contract: the call of an advance.
 use Rattle.vcd_playing.specs.Making.{finished}
-use borrow.Author.Rules.{rules}
 use Rattle.vcd_playing.proofs.playing.finish.Goals as goal
 
 pub returns : goal.returns

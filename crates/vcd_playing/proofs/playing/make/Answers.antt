@@ -1,8 +1,7 @@
 -- `vcd_playing::playing::make` meets its contract: 9, else the making.
-use mathlib.Core.Path.{◌≡◌, sym, ap, ◌∙◌}
-use Rattle.controller.specs.World.{world, buffers}
+use mathlib.Core.Path.{sym, ◌∙◌}
+use Rattle.controller.specs.World.{buffers}
 use Rattle.vcd_playing.proofs.MakingLaws.{bad_made, good_made}
-use borrow.Author.Rules.{rules}
 use Rattle.vcd_playing.proofs.playing.make.Goals as goal
 
 pub returns-then-bad_config : goal.returns-then-bad_config

@@ -1,9 +1,6 @@
 -- `vcd_playing::playing::play` meets its contract: the tests in turn, and then the dump.
-use mathlib.Core.Path.{◌≡◌, sym, ◌∙◌}
-use native.Mathlib.Omega.{arith}
 use Rattle.controller.specs.World.{buffers}
 use Rattle.vcd_playing.proofs.MakingLaws.{eight, eleven, twelve, fine}
-use borrow.Author.Rules.{rules}
 use Rattle.vcd_playing.proofs.playing.play.Goals as goal
 
 pub returns-then-config-ne-CONFIG_BYTES : goal.returns-then-config-ne-CONFIG_BYTES

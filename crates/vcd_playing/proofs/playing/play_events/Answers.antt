@@ -1,10 +1,6 @@
 -- `vcd_playing::playing::play_events` meets its contract: the words, and then the advance.
-use mathlib.Core.Path.{◌≡◌, sym, ap, ◌∙◌}
-use Rattle.vcd_simulation.specs.declared.body.Body.{Body}
-use Rattle.vcd_simulation.specs.Feed.{codes_by}
-use Rattle.vcd_playing.specs.Words.{Plays}
+use mathlib.Core.Path.{◌∙◌}
 use Rattle.vcd_playing.proofs.MakingLaws.{events_played}
-use borrow.Author.Rules.{rules}
 use Rattle.vcd_playing.proofs.playing.play_events.Goals as goal
 
 pub shape_of-old : goal.shape_of-old

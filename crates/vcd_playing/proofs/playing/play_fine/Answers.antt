@@ -3,7 +3,6 @@ use mathlib.Core.Path.{◌∙◌}
 use Rattle.base.proofs.RefusalWords.{told}
 use Rattle.controller.specs.World.{buffers}
 use Rattle.vcd_playing.proofs.MakingLaws.{fine_yes, fine_no}
-use borrow.Author.Rules.{rules}
 use Rattle.vcd_playing.proofs.playing.play_fine.Goals as goal
 
 pub shape_of-old-then-none : goal.shape_of-old-then-none

@@ -1,13 +1,12 @@
 -- `vcd_playing::words::play_words` meets its contract: part by part, the words and then the run of their events. The measure is what is left.
-use mathlib.Core.Path.{◌≡◌, refl, sym, ◌∙◌}
-use Prim.Native.Nat.{◌-◌, ◌≤◌, ◌<◌}
+use mathlib.Core.Path.{refl, sym, ◌∙◌}
+use Prim.Native.Nat.{◌≤◌, ◌<◌}
 use native.Mathlib.Omega.{arith}
 use lib.ListN.{length}
 use lib.Seq.{length-take-le}
 use Rattle.controller.specs.World.{world, buffers}
 use Rattle.vcd_simulation.specs.Feed.{codes_by}
-use Rattle.vcd_playing.proofs.PlayingLaws.{Playing, playing_start, playing_more, playing_over, playing_end}
-use borrow.Author.Rules.{rules}
+use Rattle.vcd_playing.proofs.PlayingLaws.{playing_start, playing_more, playing_over, playing_end}
 use Rattle.vcd_playing.proofs.words.play_words.Goals as goal
 
 pub loop-next-init : goal.loop-next-init
