@@ -646,5 +646,5 @@ class WhatGoesWrong(Case):
 
 if __name__ == "__main__":
     if not os.access(PROGRAM, os.X_OK):
-        sys.exit(f"test_morning: {PROGRAM} is not there: rt check jollanqe builds it")
+        sys.exit(f"test_morning: {PROGRAM} is not there: tools/build jollanqe builds it")
     unittest.main()

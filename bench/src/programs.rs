@@ -53,7 +53,7 @@ fn printed(
 
 pub fn whole_capture() -> io::Result<()> {
     if !Path::new(PANEL).exists() {
-        println!("(no target/bin/panel: `rt check panel` builds it)");
+        println!("(no target/bin/panel: `tools/build panel` builds it)");
         return Ok(());
     }
     let file = longest();

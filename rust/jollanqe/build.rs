@@ -1,4 +1,4 @@
-//! Links the static library that `rt staticlib exports` writes at the project's root, or the one in
+//! Links the static library that `tools/build exports` writes at the project's root, or the one in
 //! the folder that `JOLLANQE_LIBRARY_DIR` names.
 
 use std::env;
@@ -20,7 +20,7 @@ fn main() {
     println!("cargo::rerun-if-changed={}", library.display());
     if !library.exists() {
         let place = library.display();
-        println!("cargo::error={place} is missing: run `rt staticlib exports`, or set {DIRECTORY}");
+        println!("cargo::error={place} is missing: run `tools/build exports`, or set {DIRECTORY}");
         return;
     }
     println!("cargo::rustc-link-search=native={}", directory.display());

@@ -1,7 +1,7 @@
 //! A model of the UC8253/UC8279d e-paper controller and of the glass behind it.
 //!
 //! Feed it what goes over the bus, and look at the picture that the glass shows. The model itself is
-//! written and proved in Rattle; this crate links its static library (`rt staticlib exports` at the
+//! written and proved in Rattle; this crate links its static library (`tools/build exports` at the
 //! project's root; `JOLLANQE_LIBRARY_DIR` names another folder) and owns what a host lends to it.
 //!
 //! ```

@@ -1,0 +1,26 @@
+-- `showing::write::write_parts` meets what it calls asks: each part is units of the output. The measure is the units that are left.
+use mathlib.Core.Path.{◌≡◌, sym, ap, ◌∙◌}
+use Prim.Native.Nat.{◌-◌}
+use native.Mathlib.Omega.{arith}
+use lib.ListN.{length}
+use lib.Seq.{length-take-le}
+use Rattle.output.specs.Parts.{units_from}
+use Rattle.output.proofs.PartLaws.{part_is, part_within, part_on}
+use borrow.Author.Rules.{rules}
+use Rattle.showing.proofs.write.write_parts.Goals as goal
+
+pub slice_bounds-emit-end : goal.slice_bounds-emit-end
+slice_bounds-emit-end c = part_within c.next_part-part.ensures
+
+pub slice_bounds-emit-end-in-loop-from : goal.slice_bounds-emit-end-in-loop-from
+slice_bounds-emit-end-in-loop-from c = sym (length-take-le _ _ (part_within c.next_part-part.ensures))
+
+pub emit-requires : goal.emit-requires
+emit-requires c =
+    let from = c.loop-from.from in
+    let next = c.next_part-part.result.next in
+    part_is c.next_part-part.ensures ∙ ap (units_from from (next - from)) c.requires
+
+pub loop-from-smaller : goal.loop-from-smaller
+loop-from-smaller c =
+    omega (arith, part_on c.next_part-part.ensures, c.if-next-from.false, c.loop-from-test.true)
