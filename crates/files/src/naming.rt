@@ -1,4 +1,5 @@
 // A name as a path, and what fails, said on standard error by name.
+use std::fmt::Write;
 use std::io::{Error, ErrorKind};
 use std::str::from_utf8;
 use std::{fmt, io};
@@ -29,8 +30,44 @@ pub fn path(name: &[u8]) -> io::Result<&str> {
     }
 }
 
+// Writes on what it is given but for the system's number of an error, which std puts behind the words.
+#[derive(Drop)]
+struct Unnumbered<'a, W: fmt::Write> {
+    to: &'a mut W,
+    ended: bool,
+}
+
+impl<W: fmt::Write> fmt::Write for Unnumbered<'_, W> {
+    fn write_str(&mut self, s: &str) -> fmt::Result {
+        if s == " (os error " {
+            self.ended = true;
+        }
+        if self.ended {
+            return Ok(());
+        }
+        self.to.write_str(s)
+    }
+}
+
+// Why something failed, in the system's words alone.
+#[derive(Clone, Copy)]
+struct Words {
+    error: Error,
+}
+
+impl fmt::Display for Words {
+    fn fmt<W: fmt::Write>(&self, f: &mut fmt::Formatter<W>) -> fmt::Result {
+        let mut to = Unnumbered {
+            to: f,
+            ended: false,
+        };
+        write!(to, "{}", self.error)
+    }
+}
+
 // A line on standard error: what failed, and why.
 pub fn tell<R: Eprint>(rt: &R, name: &[u8], error: Error) {
     let shown = Shown { name };
-    let _ = eprintln!(rt; "{shown}: {error}");
+    let words = Words { error };
+    let _ = eprintln!(rt; "{shown}: {words}");
 }

@@ -127,12 +127,19 @@ pub(crate) fn theirs(bytes: &[u8], stored: usize) -> Answers {
 }
 
 // An answer of the trace that is under way, after its event of that index.
-pub(crate) fn held(t: Tally, event: u64, which: Which, ours: u64, theirs: u64) -> Tally {
+pub(crate) fn held<R: Print>(
+    rt: &R,
+    t: Tally,
+    event: u64,
+    which: Which,
+    ours: u64,
+    theirs: u64,
+) -> Tally {
     if ours == theirs {
         return t;
     }
     if t.differ < SHOWN {
-        report::difference(t.traces, event, which, ours, theirs);
+        report::difference(rt, t.traces, event, which, ours, theirs);
     }
     Tally {
         traces: t.traces,
@@ -142,28 +149,56 @@ pub(crate) fn held(t: Tally, event: u64, which: Which, ours: u64, theirs: u64) -
 }
 
 // What the event's own call gave, and the pins.
-fn compare_call(t: Tally, event: u64, ours: Answers, theirs: Answers) -> Tally {
-    let stored = held(t, event, Which::Stored, ours.stored, theirs.stored);
-    let refused = held(stored, event, Which::Refused, ours.refused, theirs.refused);
-    let read = held(refused, event, Which::Read, ours.read, theirs.read);
-    let busy = held(read, event, Which::Busy, ours.busy, theirs.busy);
-    let due = held(busy, event, Which::Due, ours.due, theirs.due);
-    held(due, event, Which::Deadline, ours.deadline, theirs.deadline)
+fn compare_call<R: Print>(rt: &R, t: Tally, event: u64, ours: Answers, theirs: Answers) -> Tally {
+    let stored = held(rt, t, event, Which::Stored, ours.stored, theirs.stored);
+    let refused = held(
+        rt,
+        stored,
+        event,
+        Which::Refused,
+        ours.refused,
+        theirs.refused,
+    );
+    let read = held(rt, refused, event, Which::Read, ours.read, theirs.read);
+    let busy = held(rt, read, event, Which::Busy, ours.busy, theirs.busy);
+    let due = held(rt, busy, event, Which::Due, ours.due, theirs.due);
+    held(
+        rt,
+        due,
+        event,
+        Which::Deadline,
+        ours.deadline,
+        theirs.deadline,
+    )
 }
 
 // All answers after an event.
-pub(crate) fn compare(t: Tally, event: u64, ours: Answers, theirs: Answers) -> Tally {
-    let call = compare_call(t, event, ours, theirs);
-    let rows = held(call, event, Which::Rows, ours.rows, theirs.rows);
-    let dropped = held(rows, event, Which::Dropped, ours.dropped, theirs.dropped);
+pub(crate) fn compare<R: Print>(
+    rt: &R,
+    t: Tally,
+    event: u64,
+    ours: Answers,
+    theirs: Answers,
+) -> Tally {
+    let call = compare_call(rt, t, event, ours, theirs);
+    let rows = held(rt, call, event, Which::Rows, ours.rows, theirs.rows);
+    let dropped = held(
+        rt,
+        rows,
+        event,
+        Which::Dropped,
+        ours.dropped,
+        theirs.dropped,
+    );
     let image = held(
+        rt,
         dropped,
         event,
         Which::Generation,
         ours.generation,
         theirs.generation,
     );
-    let planes = held(image, event, Which::Planes, ours.planes, theirs.planes);
+    let planes = held(rt, image, event, Which::Planes, ours.planes, theirs.planes);
     Tally {
         traces: planes.traces,
         events: saturating_add(planes.events, 1),

@@ -8,28 +8,45 @@ mod digest;
 mod report;
 mod trace;
 
+ghost use Rattle.std.specs.Prelude.{◌≤◌, length};
+
 use answers::Tally;
 use base::{TOP, least, saturating_add};
 use capture::little;
-use libc::STDIN_FILENO;
 use showing::INPUT;
+use std::io::Read;
 use trace::retrace;
 
 // The bytes of a length.
 const LENGTH: usize = 4;
 
+// Reads until the buffer is full or the input ends: a read that fails ends it too.
+pub(crate) fn read_full<I: Read>(input: &mut I, buffer: &mut [u8]) -> usize
+    ensures { result ≤ length buffer.new }
+{
+    let mut held: usize = 0;
+    while held < buffer.len() {
+        let n = input.read(&mut buffer[held..]).unwrap_or(0);
+        if n == 0 {
+            return held;
+        }
+        held += n;
+    }
+    held
+}
+
 // The trace whose capture is the next bytes of the input, as many as there is space for, or those
 // that are left.
-fn retrace_next(t: Tally, space: &mut [u8]) -> Tally {
-    let n = io::read_full(STDIN_FILENO, space);
-    retrace(t, &space[..n])
+fn retrace_next<R: Print, I: Read>(rt: &R, input: &mut I, t: Tally, space: &mut [u8]) -> Tally {
+    let n = read_full(input, space);
+    retrace(rt, input, t, &space[..n])
 }
 
 // The trace whose capture has that length.
-fn retrace_sized(t: Tally, length: u64) -> Tally {
+fn retrace_sized<R: Print, I: Read>(rt: &R, input: &mut I, t: Tally, length: u64) -> Tally {
     let n = least(length, INPUT as u64);
     let mut buffer = [0u8; INPUT];
-    let after = retrace_next(t, &mut buffer[..n as usize]);
+    let after = retrace_next(rt, input, t, &mut buffer[..n as usize]);
     Tally {
         traces: saturating_add(after.traces, 1),
         events: after.events,
@@ -38,16 +55,16 @@ fn retrace_sized(t: Tally, length: u64) -> Tally {
 }
 
 // The length of the next capture; TOP, which four bytes cannot hold, where there is none.
-fn next_length() -> u64 {
+fn next_length<I: Read>(input: &mut I) -> u64 {
     let mut head = [0u8; LENGTH];
-    if io::read_full(STDIN_FILENO, &mut head) < LENGTH {
+    if read_full(input, &mut head) < LENGTH {
         return TOP;
     }
     little(&head, 0, LENGTH)
 }
 
 // Nothing says that an input ends, so the turns are counted; no input has so many.
-fn retrace_all() -> Tally {
+fn retrace_all<R: Print, I: Read>(rt: &R, input: &mut I) -> Tally {
     let mut t = Tally {
         traces: 0,
         events: 0,
@@ -55,16 +72,18 @@ fn retrace_all() -> Tally {
     };
     let mut turns = TOP;
     while 0 < turns {
-        let length = next_length();
+        let length = next_length(input);
         if length == TOP {
             return t;
         }
-        t = retrace_sized(t, length);
+        t = retrace_sized(rt, input, t, length);
         turns -= 1;
     }
     t
 }
 
-fn main() {
-    report::summary(retrace_all());
+fn main(rt: HostRuntime) {
+    let mut input = rt.reader();
+    let t = retrace_all(&rt, &mut input);
+    report::summary(&rt, t);
 }

@@ -3,15 +3,15 @@
 ghost use Rattle.std.specs.Prelude.{◌≤◌};
 
 use crate::answers::{ANSWERS, Answers, Tally, Which, compare, held, ours, theirs};
-use crate::digest;
+use crate::{digest, read_full};
 use base::least;
 use capture::{Capture, EVENT_BYTES, MOST_PIXELS, read};
 use config::Uc8253Config;
 use controller::Uc8253;
-use events::{Event, event_at, step};
-use libc::STDIN_FILENO;
 use diagnostic_log::ROWS;
+use events::{Event, event_at, step};
 use ram::PLANE;
+use std::io::Read;
 use uc8253::power_on;
 
 // The planes are digested after so many events.
@@ -25,9 +25,9 @@ struct Met {
 }
 
 // The next answers of the input.
-fn next_answers() -> Answers {
+fn next_answers<I: Read>(input: &mut I) -> Answers {
     let mut bytes = [0u8; ANSWERS];
-    let n = io::read_full(STDIN_FILENO, &mut bytes);
+    let n = read_full(input, &mut bytes);
     theirs(&bytes, n)
 }
 
@@ -44,7 +44,9 @@ fn digest_if(digested: bool, old: &[u8], new: &[u8]) -> u64 {
 }
 
 // The event of index i, and its answers.
-fn meet(
+fn meet<R: Print, I: Read>(
+    rt: &R,
+    input: &mut I,
     t: Tally,
     p: Uc8253,
     i: u64,
@@ -62,12 +64,14 @@ fn meet(
     let refused = s.refused;
     let planes = digest_if(digested, old, new);
     let here = ours(chip, at, refused.number(), s.answer, planes);
-    let tally = compare(t, i, here, next_answers());
+    let tally = compare(rt, t, i, here, next_answers(input));
     Met { chip, tally }
 }
 
 // The first events of the capture, so many.
-fn meet_all(
+fn meet_all<R: Print, I: Read>(
+    rt: &R,
+    input: &mut I,
     start: Tally,
     p: Uc8253,
     file: &[u8],
@@ -85,7 +89,7 @@ fn meet_all(
         let event = event_at(file, i);
         let digested = is_digested(i, count);
         let m = meet(
-            t, chip, i as u64, event, digested, old, new, states, picture, rows,
+            rt, input, t, chip, i as u64, event, digested, old, new, states, picture, rows,
         );
         t = m.tally;
         chip = m.chip;
@@ -95,7 +99,9 @@ fn meet_all(
 }
 
 // A capture that is not refused, in buffers of its panel's size.
-fn retrace_in(
+fn retrace_in<R: Print, I: Read>(
+    rt: &R,
+    input: &mut I,
     t: Tally,
     file: &[u8],
     c: Capture,
@@ -110,8 +116,10 @@ fn retrace_in(
     let chip = made.chip;
     let refused = made.refused;
     let count = c.end / EVENT_BYTES;
-    let start = held(t, 0, Which::Refused, refused.number() as u64, 0);
-    meet_all(start, chip, file, count, old, new, states, picture, rows)
+    let start = held(rt, t, 0, Which::Refused, refused.number() as u64, 0);
+    meet_all(
+        rt, input, start, chip, file, count, old, new, states, picture, rows,
+    )
 }
 
 // How many pixels the panel has, and no more than there is room for.
@@ -123,12 +131,12 @@ fn pixels(config: Uc8253Config) -> usize
 
 // The trace of a capture. One that is refused has no events; a panel for which there is no room is
 // refused by its making.
-pub(crate) fn retrace(t: Tally, file: &[u8]) -> Tally {
+pub(crate) fn retrace<R: Print, I: Read>(rt: &R, input: &mut I, t: Tally, file: &[u8]) -> Tally {
     let c = read(file);
     let refused = c.refused;
     let no = refused.number();
     if no != 0 {
-        return held(t, 0, Which::Refused, no as u64, 0);
+        return held(rt, t, 0, Which::Refused, no as u64, 0);
     }
     let mut old = [0u8; PLANE];
     let mut new = [0u8; PLANE];
@@ -138,6 +146,8 @@ pub(crate) fn retrace(t: Tally, file: &[u8]) -> Tally {
     let config = c.config;
     let n = pixels(config);
     retrace_in(
+        rt,
+        input,
         t,
         file,
         c,

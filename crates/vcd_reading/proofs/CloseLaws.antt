@@ -2,8 +2,8 @@
 use mathlib.Core.Path.{◌≡◌, refl, sym, ap, subst, ◌∙◌}
 use mathlib.Core.Bool.{true}
 use mathlib.Core.List.{List, [], ◌∷◌, ◌++◌, append-nil}
-use Prim.Native.Nat.{ℕ, ◌<◌}
-use lib.ListN.{length, take, drop}
+use Prim.Native.Nat.{ℕ}
+use lib.ListN.{take, drop}
 use Rattle.controller.specs.World.{World}
 use Rattle.vcd_words.specs.Words.{closed, opened, words}
 use Rattle.vcd_words.proofs.Cutting.{words_cut}
@@ -26,9 +26,8 @@ use Rattle.vcd_playing.specs.Making.{finished}
 use Rattle.vcd_reading.specs.declared.reader.Stage.{Stage}
 use Rattle.vcd_reading.specs.declared.reader.Reader.{Reader}
 use Rattle.vcd_reading.specs.declared.closing.Closed.{Closed}
-use Rattle.vcd_reading.specs.declared.closing.Ending.{Ending}
 use Rattle.vcd_reading.specs.declared.closing.Ending.TheVariants as ending
-use Rattle.vcd_reading.specs.Reading.{Heading, Playing, Closes}
+use Rattle.vcd_reading.specs.Reading.{Playing, Closes}
 use Rattle.vcd_reading.specs.InnerStep.{ClosesWords}
 use Rattle.vcd_reading.proofs.ReadLaws.{more_done}
 

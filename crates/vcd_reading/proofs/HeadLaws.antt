@@ -1,17 +1,16 @@
 -- A dump read part by part: while its first bytes are kept, and where its declarations are over.
 use mathlib.Core.Path.{◌≡◌, refl, sym, ap, subst, ◌∙◌}
 use mathlib.Core.Bool.{Bool, true, false, false≢true}
-use mathlib.Core.List.{List, [], ◌∷◌, ◌++◌, append_assoc, append-nil}
-use Prim.Native.Nat.{ℕ, ◌+◌, ◌-◌, ◌≤◌, ◌<◌}
+use mathlib.Core.List.{List, [], ◌++◌, append_assoc, append-nil}
+use Prim.Native.Nat.{ℕ, ◌-◌, ◌≤◌, ◌<◌}
 use native.Mathlib.Omega.{arith}
-use lib.ListN.{length, take, drop, length-append, length-drop, take-append-drop}
+use lib.ListN.{length, take, drop, length-drop, take-append-drop}
 use lib.Seq.{length-take-le, take_all}
-use Rattle.base.specs.Pick.{pick}
 use Rattle.base.proofs.Cases.{by_cases}
 use Rattle.text.specs.Text.{Puts}
 use Rattle.text.proofs.Filling.{length_puts}
 use Rattle.controller.specs.World.{World}
-use Rattle.vcd_words.specs.Words.{closed, opened}
+use Rattle.vcd_words.specs.Words.{closed}
 use Rattle.vcd_words.specs.declared.Span.{Span}
 use Rattle.vcd_words.specs.Places.{span_at}
 use Rattle.vcd_words.proofs.SpanLaws.{next_is}
@@ -25,7 +24,7 @@ use Rattle.vcd_reading.specs.declared.reader.Stage.{Stage}
 use Rattle.vcd_reading.specs.declared.reader.Stage.TheVariants as stage
 use Rattle.vcd_reading.specs.declared.reader.Reader.{Reader}
 use Rattle.vcd_reading.specs.declared.reading.Step.{Step}
-use Rattle.vcd_reading.specs.Reading.{Heading, Playing, LongHead, LongWord, StandsBy, Stands}
+use Rattle.vcd_reading.specs.Reading.{Heading, Playing, LongHead, StandsBy, Stands}
 use Rattle.vcd_reading.specs.InnerStep.{is_playing, stage_after, gone_on, PlaysPart}
 use Rattle.vcd_reading.proofs.CarryLaws.{put_front}
 use Rattle.vcd_reading.proofs.ReadLaws.{word_more}

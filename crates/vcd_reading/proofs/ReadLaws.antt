@@ -2,19 +2,16 @@
 use mathlib.Core.Path.{◌≡◌, refl, sym, ap, subst, ◌∙◌}
 use mathlib.Core.Bool.{Bool, true, false}
 use mathlib.Core.List.{List, [], ◌∷◌, ◌++◌, append_assoc, append-nil}
-use Prim.Native.Nat.{ℕ, suc, ◌+◌, ◌-◌, ◌≤◌, ◌<◌}
+use Prim.Native.Nat.{ℕ, suc, ◌≤◌, ◌<◌}
 use native.Mathlib.Omega.{arith}
 use lib.ListN.{length, take, drop, length-append, length-drop, take-append-drop}
 use lib.Seq.{drop-append-le, length-take-le, take_all}
-use Rattle.base.specs.Pick.{pick}
 use Rattle.base.proofs.Cases.{by_cases}
 use Rattle.controller.specs.World.{World}
 use Rattle.vcd_words.specs.Words.{is_blank, closed, opened, words}
 use Rattle.vcd_words.specs.Places.{front, is_solid}
 use Rattle.vcd_words.proofs.Cutting.{words_cut, closed_join, opened_join, stays_closed, stays_open}
-use Rattle.vcd_words.proofs.WordLaws.{front_none, front_most}
-use Rattle.vcd_declarations.specs.declared.head.Begun.{Begun}
-use Rattle.vcd_declarations.specs.Begun.{Begins}
+use Rattle.vcd_words.proofs.WordLaws.{front_none}
 use Rattle.vcd_simulation.specs.declared.body.Body.{Body}
 use Rattle.vcd_simulation.specs.Simulation.{Codes, Went, begun, words_done}
 use Rattle.vcd_simulation.specs.Feed.{codes_by}
@@ -28,7 +25,7 @@ use Rattle.vcd_reading.specs.declared.reader.Stage.TheVariants as stage
 use Rattle.vcd_reading.specs.declared.reader.Reader.{Reader}
 use Rattle.vcd_reading.specs.declared.reading.Step.{Step}
 use Rattle.vcd_reading.specs.declared.carrying.Carried.{Carried}
-use Rattle.vcd_reading.specs.Reading.{Heading, Playing, LongHead, LongWord, StandsBy, Stands}
+use Rattle.vcd_reading.specs.Reading.{Playing, LongHead, LongWord, StandsBy, Stands}
 use Rattle.vcd_reading.specs.InnerCarried.{Carries}
 use Rattle.vcd_reading.specs.InnerStep.{gone_on, part_went, PlaysPart}
 use Rattle.vcd_reading.proofs.CarryLaws.{carries_as}

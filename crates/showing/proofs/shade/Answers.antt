@@ -5,22 +5,22 @@ use borrow.Author.Rules.{rules}
 use Rattle.showing.proofs.shade.Goals as goal
 
 pub slice_bounds-shade_in-end-3 : goal.slice_bounds-shade_in-end-3
-slice_bounds-shade_in-end-3 c = length_front _ _ c.cut-n.ensures.1
+slice_bounds-shade_in-end-3 g c = length_front _ _ c.cut-n.ensures.1
 
 pub slice_bounds-shade_in-end-5 : goal.slice_bounds-shade_in-end-5
-slice_bounds-shade_in-end-5 c = length_front _ _ c.cut-q.ensures.1
+slice_bounds-shade_in-end-5 g c = length_front _ _ c.cut-q.ensures.1
 
 pub shade_in-requires : goal.shade_in-requires
-shade_in-requires c =
+shade_in-requires g c =
     let a = c.args in
     let b : Buffers = buffers a.old.now a.new.now a.states.now a.picture.now a.rows.now in
-    let p = size_read a.file.now _ _ c.read-c.ensures.config_is c.pixels-pixels.ensures in (
-      c.read-c.ensures,
-      fits_cut a.file.now b _ _ _ p c.cut-n.ensures.0 c.cut-q.ensures.0,
-    )
+    let p = size_read a.file.now _ _ c.read-c.ensures.config_is c.pixels-pixels.ensures in record {
+      reads = c.read-c.ensures;
+      fits = fits_cut a.file.now b _ _ _ p c.cut-n.ensures.0 c.cut-q.ensures.0;
+    }
 
 pub returns : goal.returns
-returns c =
+returns g c =
     let a = c.args in
     let b : Buffers = buffers a.old.now a.new.now a.states.now a.picture.now a.rows.now in
     let p = size_read a.file.now _ _ c.read-c.ensures.config_is c.pixels-pixels.ensures in

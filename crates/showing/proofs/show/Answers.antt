@@ -6,22 +6,23 @@ use borrow.Author.Rules.{rules}
 use Rattle.showing.proofs.show.Goals as goal
 
 pub slice_bounds-show_in-end-3 : goal.slice_bounds-show_in-end-3
-slice_bounds-show_in-end-3 c = length_front _ _ c.cut-n.ensures.1
+slice_bounds-show_in-end-3 g c = length_front _ _ c.cut-n.ensures.1
 
 pub slice_bounds-show_in-end-5 : goal.slice_bounds-show_in-end-5
-slice_bounds-show_in-end-5 c = length_front _ _ c.cut-q.ensures.1
+slice_bounds-show_in-end-5 g c = length_front _ _ c.cut-q.ensures.1
 
 pub show_in-requires : goal.show_in-requires
-show_in-requires c =
+show_in-requires g c =
     let a = c.args in
     let b : Buffers = buffers a.old.now a.new.now a.states.now a.picture.now a.rows.now in
-    let p = size_read a.file.now _ _ c.read-c.ensures.config_is c.pixels-pixels.ensures in (
-      c.read-c.ensures,
-      (fits_cut a.file.now b _ _ _ p c.cut-n.ensures.0 c.cut-q.ensures.0, refl),
-    )
+    let p = size_read a.file.now _ _ c.read-c.ensures.config_is c.pixels-pixels.ensures in record {
+      reads = c.read-c.ensures;
+      fits = fits_cut a.file.now b _ _ _ p c.cut-n.ensures.0 c.cut-q.ensures.0;
+      answers_value = refl;
+    }
 
 pub returns : goal.returns
-returns c =
+returns g c =
     let a = c.args in
     let b : Buffers = buffers a.old.now a.new.now a.states.now a.picture.now a.rows.now in
     let p = size_read a.file.now _ _ c.read-c.ensures.config_is c.pixels-pixels.ensures in

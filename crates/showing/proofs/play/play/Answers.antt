@@ -20,19 +20,24 @@ pub returns-then-none : goal.returns-then-none
 returns-then-none c =
     let a = c.args in
     let b : Buffers = buffers a.old.now a.new.now a.states.now a.picture.now a.rows.now in
-    let e = (c.play.ensures.makes, c.play.ensures.answers_after) in
     let n = program_number a.file.now a.c c.requires a.form _ c.refusal-refused.ensures in
-    let h = told c.none.ensures n c.if-none.true in record { makes = (
-        play_yes a.file.now a.c c.requires a.form b h _ e.0.0,
-        play_yes_number a.file.now a.c c.requires a.form b h _ e.0.1,
-      ); answers_after = play_yes_answers a.file.now a.c c.requires a.form b h a.answers.now _ e.1; }
+    let h = told c.none.ensures n c.if-none.true in record {
+      makes = (
+        play_yes a.file.now a.c c.requires a.form b h _ c.play.ensures.makes.0,
+        play_yes_number a.file.now a.c c.requires a.form b h _ c.play.ensures.makes.1,
+      );
+      answers_after = play_yes_answers a.file.now a.c c.requires a.form b h a.answers.now _ c.play.ensures.answers_after;
+    }
 
 pub returns : goal.returns
 returns c =
     let a = c.args in
     let b : Buffers = buffers a.old.now a.new.now a.states.now a.picture.now a.rows.now in
     let n = program_number a.file.now a.c c.requires a.form _ c.refusal-refused.ensures in
-    let h = told c.none.ensures n c.if-none.false in record { makes = (
+    let h = told c.none.ensures n c.if-none.false in record {
+      makes = (
         play_no a.form a.file.now b h _ (ap (λ (p : Uc8253). world p b) c.zeros-chip.ensures),
         play_no_number a.form a.file.now b h _ n,
-      ); answers_after = play_no_answers a.form a.file.now b h a.answers.now; }
+      );
+      answers_after = play_no_answers a.form a.file.now b h a.answers.now;
+    }

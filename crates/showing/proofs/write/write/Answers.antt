@@ -9,12 +9,12 @@ use borrow.Author.Rules.{rules}
 use Rattle.showing.proofs.write.write.Goals as goal
 
 pub slice_bounds-write_parts-end-2 : goal.slice_bounds-write_parts-end-2
-slice_bounds-write_parts-end-2 c =
+slice_bounds-write_parts-end-2 g c =
     let file = c.args.file.now in
     sym (length-take-le _ file (subst (λ (n : ℕ). n ≤ length file) (sym c.requires.end_value) (events_within file)))
 
 pub write_parts-requires : goal.write_parts-requires
-write_parts-requires c =
+write_parts-requires g c =
     let a = c.args in
     ap (λ (n : ℕ). units_of a.form a.o (take n a.file.now) a.answers.now a.picture.now a.rows.now) c.requires.end_value
     ∙ c.requires.output

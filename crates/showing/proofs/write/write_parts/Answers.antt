@@ -10,17 +10,17 @@ use borrow.Author.Rules.{rules}
 use Rattle.showing.proofs.write.write_parts.Goals as goal
 
 pub slice_bounds-emit-end : goal.slice_bounds-emit-end
-slice_bounds-emit-end c = part_within c.next_part-part.ensures
+slice_bounds-emit-end g c = part_within c.next_part-part.ensures
 
 pub slice_bounds-emit-end-in-loop-from : goal.slice_bounds-emit-end-in-loop-from
-slice_bounds-emit-end-in-loop-from c = sym (length-take-le _ _ (part_within c.next_part-part.ensures))
+slice_bounds-emit-end-in-loop-from g c = sym (length-take-le _ _ (part_within c.next_part-part.ensures))
 
 pub emit-requires : goal.emit-requires
-emit-requires c =
+emit-requires g c =
     let from = c.loop-from.from in
     let next = c.next_part-part.result.next in
     part_is c.next_part-part.ensures ∙ ap (units_from from (next - from)) c.requires
 
 pub loop-from-smaller : goal.loop-from-smaller
-loop-from-smaller c =
+loop-from-smaller g c =
     omega (arith, part_on c.next_part-part.ensures, c.if-next-from.false, c.loop-from-test.true)

@@ -10,7 +10,7 @@ use borrow.Author.Rules.{rules}
 use Rattle.showing.proofs.write.write_parts.Given as goal
 
 abbrev pub invariant-loop-from : goal.invariant-loop-from
-invariant-loop-from l = length l.text ≡ length l.initial.text
+invariant-loop-from g l = length l.text ≡ length l.initial.text
 
 abbrev pub decreases-loop-from : goal.decreases-loop-from
-decreases-loop-from l = l.end - l.to
+decreases-loop-from g l = l.end - l.from

@@ -2,7 +2,6 @@
 use native.Mathlib.Omega.{arith}
 use Rattle.vcd_words.proofs.SpanLaws.{next_is}
 use Rattle.vcd_reading.proofs.CarryLaws.{open_part, carries_as}
-use borrow.Author.Rules.{rules}
 use Rattle.vcd_reading.proofs.carrying.carry.Goals as goal
 
 pub slice_bounds-extend-count : goal.slice_bounds-extend-count

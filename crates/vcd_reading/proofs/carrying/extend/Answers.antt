@@ -1,7 +1,6 @@
 -- `vcd_reading::carrying::extend` meets its contract: all of the bytes, or none.
 use native.Mathlib.Omega.{arith}
 use Rattle.vcd_reading.proofs.CarryLaws.{no_room, some_room}
-use borrow.Author.Rules.{rules}
 use Rattle.vcd_reading.proofs.carrying.extend.Goals as goal
 
 pub returns-then-room-bytes : goal.returns-then-room-bytes

@@ -1,10 +1,8 @@
 -- `vcd_reading::carrying::solid` meets its contract: the first word, if it begins there.
-use mathlib.Core.Path.{◌≡◌, refl, sym, ap, ◌∙◌}
+use mathlib.Core.Path.{sym}
 use native.Mathlib.Omega.{arith}
-use lib.ListN.{length}
 use Rattle.vcd_words.proofs.SpanLaws.{next_is}
 use Rattle.vcd_reading.proofs.CarryLaws.{solid_first, blank_first}
-use borrow.Author.Rules.{rules}
 use Rattle.vcd_reading.proofs.carrying.solid.Goals as goal
 
 pub returns-then-s-eq0 : goal.returns-then-s-eq0

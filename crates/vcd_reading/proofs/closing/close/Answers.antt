@@ -1,5 +1,5 @@
 -- `vcd_reading::closing::close` meets its contract, by the stage.
-use mathlib.Core.Path.{◌≡◌, refl, sym, ap, subst, ◌∙◌}
+use mathlib.Core.Path.{refl, ap}
 use mathlib.Core.List.{List}
 use Prim.Native.Nat.{ℕ}
 use lib.ListN.{take}
@@ -8,7 +8,6 @@ use Rattle.vcd_reading.specs.declared.reader.Stage.TheVariants as stage
 use Rattle.vcd_reading.proofs.ReadLaws.{at_stage}
 use Rattle.vcd_reading.proofs.HeadLaws.{begins_as}
 use Rattle.vcd_reading.proofs.CloseLaws.{closes_at, closes_as, kept_closes, played_closes}
-use borrow.Author.Rules.{rules}
 use Rattle.vcd_reading.proofs.closing.close.Goals as goal
 
 pub shape_of-old-in-Heading : goal.shape_of-old-in-Heading

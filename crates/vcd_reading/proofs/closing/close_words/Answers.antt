@@ -1,7 +1,6 @@
 -- `vcd_reading::closing::close_words` meets its contract: the words, the advance, and what they come to.
-use mathlib.Core.Path.{◌≡◌, refl, sym, ap, subst, ◌∙◌}
+use mathlib.Core.Path.{refl, ◌∙◌}
 use Rattle.vcd_reading.proofs.CloseLaws.{words_closed}
-use borrow.Author.Rules.{rules}
 use Rattle.vcd_reading.proofs.closing.close_words.Goals as goal
 
 pub shape_of-old : goal.shape_of-old

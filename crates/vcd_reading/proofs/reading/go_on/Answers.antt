@@ -1,14 +1,13 @@
 -- `vcd_reading::reading::go_on` meets its contract: what closes the word that is open, and then what is behind it.
-use mathlib.Core.Path.{◌≡◌, refl, sym, ap, ◌∙◌}
+use mathlib.Core.Path.{sym, ap, ◌∙◌}
 use mathlib.Core.List.{List, ◌++◌}
 use Prim.Native.Nat.{ℕ, ◌<◌}
 use native.Mathlib.Omega.{arith}
 use borrow.Author.Tests.{not-true, not-false}
-use lib.ListN.{length, take}
+use lib.ListN.{length}
 use lib.Seq.{length-take-le}
 use Rattle.vcd_simulation.specs.Feed.{codes_by}
 use Rattle.vcd_reading.proofs.ReadLaws.{plays_as, stands_as, word_long, no_blank, blank_there}
-use borrow.Author.Rules.{rules}
 use Rattle.vcd_reading.proofs.reading.go_on.Goals as goal
 
 pub returns-then-word-r : goal.returns-then-word-r

@@ -1,7 +1,6 @@
 -- `vcd_reading::reading::gone_on` meets its contract.
 use mathlib.Core.Path.{ap}
 use Rattle.vcd_reading.specs.declared.reader.Stage.{Stage}
-use borrow.Author.Rules.{rules}
 use Rattle.vcd_reading.proofs.reading.gone_on.Goals as goal
 
 pub returns : goal.returns

@@ -1,14 +1,13 @@
 -- `vcd_reading::reading::keep` meets its contract: as much as there is room for, and then what its declarations say.
-use mathlib.Core.Path.{◌≡◌, refl, sym, ap, subst, ◌∙◌}
+use mathlib.Core.Path.{refl, sym, ap, ◌∙◌}
 use mathlib.Core.List.{List, ◌++◌}
-use Prim.Native.Nat.{ℕ, ◌≤◌}
+use Prim.Native.Nat.{ℕ, ◌-◌, ◌≤◌}
 use native.Mathlib.Omega.{arith}
 use lib.ListN.{length}
 use Rattle.text.proofs.Filling.{length_puts}
 use Rattle.vcd_words.specs.Places.{span_at}
 use Rattle.vcd_reading.proofs.ReadLaws.{stands_as, dump_as}
 use Rattle.vcd_reading.proofs.HeadLaws.{begins_as, settle_may, whole_part, keeps_all, keeps_some}
-use borrow.Author.Rules.{rules}
 use Rattle.vcd_reading.proofs.reading.keep.Goals as goal
 
 pub returns-then-kept-r : goal.returns-then-kept-r
@@ -23,7 +22,10 @@ pub settle-requires : goal.settle-requires
 settle-requires c =
     let p = c.put-held.ensures in
     let b = begins_as c.first.ensures c.declarations-b.ensures in
-    settle_may c.put-held.result _ c.declarations-b.result b c.next_word-w.result (c.next_word-w.ensures ∙ ap (λ (l : List ℕ). span_at l c.declarations-b.result.next) c.first-2.ensures) (omega (arith, p.count, length_puts p)) c.if-w-held.true c.args.bytes.now _ (omega (arith, p.count))
+    let within : c.put-held.result ≤ length c.put-held.new.text = omega (arith, p.count, length_puts p) in
+    let taken = c.put-held.result - c.args.r.held in
+    let may = settle_may c.put-held.result c.put-held.new.text c.declarations-b.result b c.next_word-w.result (c.next_word-w.ensures ∙ ap (λ (l : List ℕ). span_at l c.declarations-b.result.next) c.first-2.ensures) within c.if-w-held.true c.args.bytes.now taken (omega (arith, p.count)) in
+    record { held_in_bounds = may.0; taken_in_bounds = may.1.0; begins = may.1.1.0; nonzero = may.1.1.1 }
 
 pub shape_of-kept-then-w-held : goal.shape_of-kept-then-w-held
 shape_of-kept-then-w-held c =

@@ -1,9 +1,8 @@
 -- `vcd_reading::reading::part` meets its contract, by the stage.
-use mathlib.Core.Path.{◌≡◌, refl, sym, ap, subst, ◌∙◌}
+use mathlib.Core.Path.{refl}
 use mathlib.Core.List.{◌++◌}
 use Rattle.vcd_reading.specs.declared.reader.Stage.TheVariants as stage
 use Rattle.vcd_reading.proofs.ReadLaws.{start_as, at_stage, of_stage, head_more, word_more}
-use borrow.Author.Rules.{rules}
 use Rattle.vcd_reading.proofs.reading.part.Goals as goal
 
 pub shape_of-kept-in-Heading : goal.shape_of-kept-in-Heading

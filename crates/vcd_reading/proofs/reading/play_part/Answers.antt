@@ -1,13 +1,10 @@
 -- `vcd_reading::reading::play_part` meets its contract: the words, and then the open one.
-use mathlib.Core.Path.{◌≡◌, refl, sym, ap, ◌∙◌}
-use lib.ListN.{length}
 use Rattle.vcd_reading.proofs.ReadLaws.{part_played}
-use borrow.Author.Rules.{rules}
 use Rattle.vcd_reading.proofs.reading.play_part.Goals as goal
 
 pub carry-c-requires : goal.carry-c-requires
 carry-c-requires c =
-    (c.play_words-t.ensures.inside c.requires, c.play_words-t.ensures.none_left)
+    record { at_in_bounds = c.play_words-t.ensures.inside c.requires; bytes_value = c.play_words-t.ensures.none_left }
 
 pub shape_of-word : goal.shape_of-word
 shape_of-word c =

@@ -1,5 +1,5 @@
 -- `vcd_reading::reading::settle` meets its contract: the words behind the declarations, and then the rest of the part.
-use mathlib.Core.Path.{◌≡◌, refl, sym, ap, subst, ◌∙◌}
+use mathlib.Core.Path.{sym, ap, ◌∙◌}
 use mathlib.Core.List.{List, ◌++◌}
 use Prim.Native.Nat.{ℕ, ◌-◌}
 use native.Mathlib.Omega.{arith}
@@ -7,7 +7,6 @@ use lib.ListN.{length, take, drop, length-drop}
 use lib.Seq.{take_all}
 use Rattle.vcd_reading.proofs.ReadLaws.{dump_as, part_as}
 use Rattle.vcd_reading.proofs.HeadLaws.{plays_there, long_there}
-use borrow.Author.Rules.{rules}
 use Rattle.vcd_reading.proofs.reading.settle.Goals as goal
 
 pub play_part-s-requires : goal.play_part-s-requires
