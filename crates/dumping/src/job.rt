@@ -9,12 +9,14 @@ use crate::writing::write;
 use base::Refusal;
 use capture::{config_of, pixels};
 use controller::Uc8253;
-use files::{Got, is_input};
+use files::{Got, Stream, is_input, open_read, tell};
 use input::front;
-use libc::{STDIN_FILENO, STDOUT_FILENO};
 use outcome::came_by;
 use output::{Form, Outcome};
 use shades::Tone;
+use std::io;
+use std::io::{Read, Write};
+use std::rt::Files;
 use uc8253::zeros;
 
 // The bytes of a configuration; and one more, so that a larger file is seen to be larger.
@@ -26,76 +28,115 @@ const CONFIG_ROOM: usize = 313;
 const KEPT: usize = 1_048_576;
 
 // `refused` and the number, on standard output.
-fn refuse(refused: Refusal) {
+fn refuse<R: Print + Eprint>(rt: &R, refused: Refusal) {
     let rows = [0u64; 1];
     let p = zeros();
     let came = came_by(refused.number());
     let log = p.log;
     let image = p.image;
     let o = Outcome { came, log, image };
-    if !write(Form::Lines, STDOUT_FILENO, o, b"", &rows) {
-        os::fail(b"standard output");
+    let mut to = io::writer(rt);
+    if let Err(error) = write(Form::Lines, &mut to, o, b"", &rows) {
+        tell(rt, b"standard output", error);
     }
 }
 
 // The lines, or the picture, at a top of its own or as it is.
-fn write_by(tone: Tone, fd: i32, p: Uc8253, states: &[i64], picture: &[u8], rows: &[u64]) -> bool {
+fn write_by<W: Write>(
+    tone: Tone,
+    to: &mut W,
+    p: Uc8253,
+    states: &[i64],
+    picture: &[u8],
+    rows: &[u64],
+) -> io::Result<()> {
     let form = tone.form;
     if tone.wide {
-        return shades::write(form, tone.top, fd, p, states);
+        return shades::write(form, tone.top, to, p, states);
     }
     let came = came_by(0);
     let log = p.log;
     let image = p.image;
     let o = Outcome { came, log, image };
-    write(form, fd, o, picture, rows)
+    write(form, to, o, picture, rows)
 }
 
 // The panel after a dump that is not turned back; its output is made only here.
-fn show(out: &[u8], tone: Tone, p: Uc8253, states: &[i64], picture: &[u8], rows: &[u64]) {
-    let fd = files::open(out);
-    if fd < 0 {
-        return;
+fn show<R: Files + Print + Eprint>(
+    rt: &R,
+    out: &[u8],
+    tone: Tone,
+    p: Uc8253,
+    states: &[i64],
+    picture: &[u8],
+    rows: &[u64],
+) {
+    match files::open(rt, out) {
+        None => {}
+        Some(mut to) => {
+            let written = write_by(tone, &mut to, p, states, picture, rows);
+            files::close(rt, out, to, written);
+        }
     }
-    let written = write_by(tone, fd, p, states, picture, rows);
-    files::close(out, fd, written);
 }
 
 // 11 and 12 are of the dump, the others of the configuration.
-fn turn_back(config_name: &[u8], name: &[u8], config: &[u8], refused: Refusal, why: &[u8]) {
-    refuse(refused);
+fn turn_back<R: Print + Eprint>(
+    rt: &R,
+    config_name: &[u8],
+    name: &[u8],
+    config: &[u8],
+    refused: Refusal,
+    why: &[u8],
+) {
+    refuse(rt, refused);
     if 10 < refused.number() {
-        bad_dump(name, refused, why);
+        bad_dump(rt, name, refused, why);
         return;
     }
-    bad_config(config_name, config, refused);
+    bad_config(rt, config_name, config, refused);
 }
 
-// The input of that name, below 0 where it could not be opened.
-fn open(name: &[u8]) -> i32 {
+// The input of that name.
+fn open<R: Files + io::Input>(rt: &R, name: &[u8]) -> io::Result<Stream<R::Reader, R::File>> {
     if is_input(name) {
-        return STDIN_FILENO;
+        return Ok(Stream::Standard(rt.reader()));
     }
-    os::open_read(name)
+    let file = open_read(rt, name)?;
+    Ok(Stream::Named(file))
 }
 
-fn close(name: &[u8], fd: i32) {
-    if !is_input(name) {
-        libc::close(fd);
+// An input; where a read fails, that is said.
+#[derive(Drop)]
+struct Told<'a, R, I> {
+    rt: &'a R,
+    name: &'a [u8],
+    input: I,
+}
+
+impl<R: Eprint, I: Read> Read for Told<'_, R, I> {
+    fn read(&mut self, buf: &mut [u8]) -> io::Result<usize> {
+        match self.input.read(buf) {
+            Ok(n) => Ok(n),
+            Err(error) => {
+                tell(self.rt, self.name, error);
+                Err(error)
+            }
+        }
     }
 }
 
-// Says that a read failed.
-fn unread(name: &[u8]) {
+// What an input is called where a read of it fails.
+fn called(name: &[u8]) -> &[u8] {
     if is_input(name) {
-        os::fail(b"standard input");
-        return;
+        return b"standard input";
     }
-    os::fail(name);
+    name
 }
 
 // What a configuration and a dump came to.
-fn answer(
+fn answer<R: Files + Print + Eprint>(
+    rt: &R,
     came: Came,
     config_name: &[u8],
     name: &[u8],
@@ -111,17 +152,19 @@ fn answer(
     match came {
         Came::Judged(refused) => {
             if refused.none() {
-                show(out, tone, p, states, picture, rows);
+                show(rt, out, tone, p, states, picture, rows);
                 return;
             }
-            turn_back(config_name, name, config, refused, why);
+            turn_back(rt, config_name, name, config, refused, why);
         }
         Came::HeadTooLong => say(
+            rt,
             name,
             b"the declarations and a word behind them have more than 1,048,576 bytes: not read",
         ),
-        Came::WordTooLong => say(name, b"a word has more than 65,537 bytes: not read"),
-        Came::Unread => unread(name),
+        Came::WordTooLong => say(rt, name, b"a word has more than 65,537 bytes: not read"),
+        // a read that failed was said where it failed
+        Came::Unread => {}
     }
 }
 
@@ -133,11 +176,12 @@ fn room(most: usize, have: usize) -> usize
 }
 
 // A dump that is open.
-fn with_dump(
+fn with_dump<R: Files + Print + Eprint, I: Read>(
+    rt: &R,
     config_name: &[u8],
     name: &[u8],
     config: &[u8],
-    fd: i32,
+    input: &mut I,
     tone: Tone,
     out: &[u8],
     chunk: &mut [u8],
@@ -155,7 +199,7 @@ fn with_dump(
 {
     let mut text = [0u8; 256];
     let d = play(
-        config, fd, chunk, &mut text, kept, word, old, new, states, picture, rows,
+        config, input, chunk, &mut text, kept, word, old, new, states, picture, rows,
     );
     let came = d.came;
     let chip = d.chip;
@@ -163,6 +207,7 @@ fn with_dump(
     let count = pixels(config_of(config));
     let shown = front(picture, count);
     answer(
+        rt,
         came,
         config_name,
         name,
@@ -179,11 +224,12 @@ fn with_dump(
 }
 
 // What keeps the declarations is lent here.
-fn with_kept(
+fn with_kept<R: Files + Print + Eprint, I: Read>(
+    rt: &R,
     config_name: &[u8],
     name: &[u8],
     config: &[u8],
-    fd: i32,
+    input: &mut I,
     tone: Tone,
     out: &[u8],
     chunk: &mut [u8],
@@ -200,10 +246,11 @@ fn with_kept(
 {
     let mut kept = [0u8; KEPT];
     with_dump(
+        rt,
         config_name,
         name,
         config,
-        fd,
+        input,
         tone,
         out,
         chunk,
@@ -218,7 +265,8 @@ fn with_kept(
 }
 
 // A configuration of the right length.
-fn with_config(
+fn with_config<R: Files + io::Input + Print + Eprint>(
+    rt: &R,
     config_name: &[u8],
     name: &[u8],
     config: &[u8],
@@ -236,16 +284,24 @@ fn with_config(
     ensures { Ran result 1_048_576 (length word.new)
         (before old new states picture rows) (after old new states picture rows) }
 {
-    let fd = open(name);
-    if fd < 0 {
-        os::fail(name);
-        return Came::Unread;
-    }
-    let came = with_kept(
+    let input = match open(rt, name) {
+        Ok(input) => input,
+        Err(error) => {
+            tell(rt, name, error);
+            return Came::Unread;
+        }
+    };
+    let mut told = Told {
+        rt,
+        name: called(name),
+        input,
+    };
+    with_kept(
+        rt,
         config_name,
         name,
         config,
-        fd,
+        &mut told,
         tone,
         out,
         chunk,
@@ -255,14 +311,13 @@ fn with_config(
         states,
         picture,
         rows,
-    );
-    close(name, fd);
-    came
+    )
 }
 
 // The configuration and the dump of these names; `-` is standard input. A configuration of a wrong
 // length is turned back before the dump is read. What they came to is said, and handed back.
-pub fn run(
+pub fn run<R: Files + io::Input + Print + Eprint>(
+    rt: &R,
     config_name: &[u8],
     name: &[u8],
     tone: Tone,
@@ -279,12 +334,13 @@ pub fn run(
         (before old new states picture rows) (after old new states picture rows) }
 {
     let mut config = [0u8; CONFIG_ROOM];
-    let got = files::read(config_name, &mut config);
+    let got = files::read(rt, config_name, &mut config);
     match got {
         Got::Bytes(n, bytes) => {
             let c = front(&config, n);
             if c.len() == CONFIG {
                 return with_config(
+                    rt,
                     config_name,
                     name,
                     c,
@@ -299,8 +355,8 @@ pub fn run(
                     rows,
                 );
             }
-            refuse(Refusal::BrokenCapture);
-            no_config(config_name, bytes);
+            refuse(rt, Refusal::BrokenCapture);
+            no_config(rt, config_name, bytes);
             Came::Judged(Refusal::BrokenCapture)
         }
         Got::Failed => Came::Unread,

@@ -8,6 +8,7 @@ use crate::reading::{Verdict, read_dump};
 use base::Refusal;
 use capture::{config_of, pixels};
 use controller::Uc8253;
+use std::io::Read;
 use vcd::Judged;
 use vcd_playing::make;
 use vcd_reading::Ending;
@@ -26,7 +27,7 @@ pub enum Came {
 
 // The record after the last call; and how many bytes of the text say why the dump is turned back, if
 // it is.
-#[derive(Drop)]
+#[derive(Clone, Copy)]
 pub(crate) struct Dumped {
     pub(crate) chip: Uc8253,
     pub(crate) came: Came,
@@ -59,9 +60,9 @@ fn came_of(verdict: Verdict, made: Refusal) -> Came
 
 // In buffers of the panel's size. A configuration that is turned back gives the record of zeros, which
 // turns back every call, so that the dump is read to its end for 11 and 12.
-fn play_in(
+fn play_in<I: Read>(
     config: &[u8],
-    fd: i32,
+    input: &mut I,
     chunk: &mut [u8],
     text: &mut [u8],
     kept: &mut [u8],
@@ -80,7 +81,7 @@ fn play_in(
     let p = made.chip;
     let refused = made.refused;
     let c = read_dump(
-        p, fd, chunk, text, kept, word, old, new, states, picture, rows,
+        p, input, chunk, text, kept, word, old, new, states, picture, rows,
     );
     let chip = c.chip;
     let verdict = c.verdict;
@@ -100,9 +101,9 @@ fn cut(most: usize, have: usize) -> usize
 }
 
 // In the front of what is lent.
-pub(crate) fn play(
+pub(crate) fn play<I: Read>(
     config: &[u8],
-    fd: i32,
+    input: &mut I,
     chunk: &mut [u8],
     text: &mut [u8],
     kept: &mut [u8],
@@ -124,7 +125,7 @@ pub(crate) fn play(
     let q = cut(most, picture.len());
     play_in(
         config,
-        fd,
+        input,
         chunk,
         text,
         kept,

@@ -8,6 +8,7 @@ use crate::finding::{at_end, in_piece};
 use crate::pieces::{is_settled, piece};
 use controller::Uc8253;
 use input::{Input, front, read_all};
+use std::io::Read;
 use vcd::Judged;
 use vcd_reading::{Ending, Reader, Stage, close, part, start};
 use vcd_reasons::{newlines, unsignalled};
@@ -197,9 +198,9 @@ fn last_of(g: Gone, over: bool) -> Gone
 
 // As much as there is space for. The chunk is filled before it is looked at: as long as the
 // declarations go on they are read again with each.
-fn next_chunk(
+fn next_chunk<I: Read>(
     g: Gone,
-    fd: i32,
+    input: &mut I,
     chunk: &mut [u8],
     text: &mut [u8],
     kept: &mut [u8],
@@ -214,7 +215,7 @@ fn next_chunk(
     ensures { (w : World) → rule.Stood g kept.old word.old w (world g.chip (before old new states picture rows))
         → rule.Stood result kept.new word.new w (world result.chip (after old new states picture rows)) }
 {
-    let got = read_all(fd, chunk);
+    let got = read_all(input, chunk);
     match got {
         Input::Bytes(n) => {
             if n == 0 {
@@ -234,14 +235,14 @@ fn next_chunk(
             );
             last_of(q, n < chunk.len())
         }
-        Input::Failed => ended(g, Course::Unread),
+        Input::Failed(_) => ended(g, Course::Unread),
     }
 }
 
 // Chunk after chunk. Nothing says that an input ends, so the turns are counted.
-fn read_chunks(
+fn read_chunks<I: Read>(
     p: Uc8253,
-    fd: i32,
+    input: &mut I,
     chunk: &mut [u8],
     text: &mut [u8],
     kept: &mut [u8],
@@ -259,7 +260,7 @@ fn read_chunks(
     let mut turns = base::TOP;
     while 0 < turns {
         g = next_chunk(
-            g, fd, chunk, text, kept, word, old, new, states, picture, rows,
+            g, input, chunk, text, kept, word, old, new, states, picture, rows,
         );
         let course = g.course;
         if !goes_on(course) {
@@ -353,9 +354,9 @@ fn close_dump(
 }
 
 // The whole dump, from a record on.
-pub(crate) fn read_dump(
+pub(crate) fn read_dump<I: Read>(
     p: Uc8253,
-    fd: i32,
+    input: &mut I,
     chunk: &mut [u8],
     text: &mut [u8],
     kept: &mut [u8],
@@ -370,7 +371,7 @@ pub(crate) fn read_dump(
         (world result.chip (after old new states picture rows)) }
 {
     let g = read_chunks(
-        p, fd, chunk, text, kept, word, old, new, states, picture, rows,
+        p, input, chunk, text, kept, word, old, new, states, picture, rows,
     );
     let course = g.course;
     if is_open(course) {

@@ -1,38 +1,37 @@
 // What is said of a configuration and a dump on standard error, behind the file's name.
 use base::Refusal;
+use files::Shown;
 use input::front;
-use libc::STDERR_FILENO;
 use reasons::{because, config_length, config_reason, words};
 use text::put;
 
-pub(crate) fn say(name: &[u8], what: &[u8]) {
-    io::write_all(STDERR_FILENO, name);
-    io::write_all(STDERR_FILENO, b": ");
-    io::write_all(STDERR_FILENO, what);
-    io::write_all(STDERR_FILENO, b"\n");
+pub(crate) fn say<R: Eprint>(rt: &R, name: &[u8], what: &[u8]) {
+    let shown = Shown { name };
+    let words = Shown { name: what };
+    let _ = eprintln!(rt; "{shown}: {words}");
 }
 
 // A configuration of so many bytes is none.
-pub(crate) fn no_config(name: &[u8], bytes: u64) {
+pub(crate) fn no_config<R: Eprint>(rt: &R, name: &[u8], bytes: u64) {
     let mut text = [0u8; 256];
     let refused = Refusal::BrokenCapture;
     let n = words(&mut text, 0, refused.number());
     let m = config_length(&mut text, n, bytes);
-    say(name, front(&text, m));
+    say(rt, name, front(&text, m));
 }
 
 // A configuration that is turned back, 9 and 1 to 5.
-pub(crate) fn bad_config(name: &[u8], config: &[u8], refused: Refusal) {
+pub(crate) fn bad_config<R: Eprint>(rt: &R, name: &[u8], config: &[u8], refused: Refusal) {
     let mut text = [0u8; 256];
     let n = words(&mut text, 0, refused.number());
     let m = because(&mut text, n, config_reason(config));
-    say(name, front(&text, m));
+    say(rt, name, front(&text, m));
 }
 
 // A dump that is turned back, 11 and 12.
-pub(crate) fn bad_dump(name: &[u8], refused: Refusal, why: &[u8]) {
+pub(crate) fn bad_dump<R: Eprint>(rt: &R, name: &[u8], refused: Refusal, why: &[u8]) {
     let mut text = [0u8; 256];
     let n = words(&mut text, 0, refused.number());
     let m = put(&mut text, n, why);
-    say(name, front(&text, m));
+    say(rt, name, front(&text, m));
 }

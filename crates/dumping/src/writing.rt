@@ -1,40 +1,42 @@
-// What a dump came to, to a descriptor. A dump has no reads, so no event is lent on.
+// What a dump came to, to an output. A dump has no reads, so no event is lent on.
 ghost use Rattle.std.specs.Prelude.{◌≡◌, List, [], ℕ, ◌-◌};
 ghost use Rattle.output.specs.Units.{units_of};
 ghost use Rattle.output.specs.Parts.{units_from};
 
 use output::{Form, Outcome, count, next_part};
+use std::io;
+use std::io::{Error, ErrorKind, Write};
 
 // The bytes of the buffer: most outputs take one write.
 const ROOM: usize = 8_192;
 
 // Writes the bytes, which are the output from one unit up to another, and answers whether they could
 // be written. What they are of is named for the condition alone.
-fn emit(
+fn emit<W: Write>(
     form: Form,
-    fd: i32,
+    to: &mut W,
     o: Outcome,
     picture: &[u8],
     rows: &[u64],
     from: usize,
     next: usize,
     bytes: &[u8],
-) -> bool
+) -> io::Result<()>
     requires { bytes.now ≡ units_from from (next - from) (units_of form o [] [] picture.now rows.now) }
 {
-    io::write_all(fd, bytes)
+    to.write_all(bytes)
 }
 
 // All units, part by part, up to a write that fails.
-fn write_parts(
+fn write_parts<W: Write>(
     text: &mut [u8],
     form: Form,
-    fd: i32,
+    to: &mut W,
     o: Outcome,
     answers: &[u16],
     picture: &[u8],
     rows: &[u64],
-) -> bool
+) -> io::Result<()>
     requires { answers.now ≡ [] }
 {
     let end = count(form, o, b"");
@@ -44,18 +46,22 @@ fn write_parts(
         let held = part.held;
         let next = part.next;
         if next == from {
-            return false;
+            return Err(Error::from(ErrorKind::WriteZero));
         }
-        if !emit(form, fd, o, picture, rows, from, next, &text[..held]) {
-            return false;
-        }
+        emit(form, to, o, picture, rows, from, next, &text[..held])?;
         from = next;
     }
-    true
+    Ok(())
 }
 
-pub(crate) fn write(form: Form, fd: i32, o: Outcome, picture: &[u8], rows: &[u64]) -> bool {
+pub(crate) fn write<W: Write>(
+    form: Form,
+    to: &mut W,
+    o: Outcome,
+    picture: &[u8],
+    rows: &[u64],
+) -> io::Result<()> {
     let mut text = [0u8; ROOM];
     let answers = [0u16; 1];
-    write_parts(&mut text, form, fd, o, &answers[..0], picture, rows)
+    write_parts(&mut text, form, to, o, &answers[..0], picture, rows)
 }

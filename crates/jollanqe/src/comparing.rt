@@ -3,10 +3,12 @@ use crate::refusals;
 use crate::replay::room;
 use capture::{Capture, MOST_EVENTS};
 use config::Uc8253Config;
+use diagnostic_log::Log;
 use differences::{Finding, Place};
 use files::Got;
 use input::front;
-use diagnostic_log::Log;
+use std::io::{Input, Write};
+use std::rt::Files;
 
 // The bytes of a configuration without its rate, and the numbers of a row.
 const CONFIG: usize = 312;
@@ -180,7 +182,8 @@ fn pixels_of(file: &[u8]) -> usize {
 }
 
 // The report, to the output of that name.
-fn write(
+fn write<R: Files + Print + Eprint>(
+    rt: &R,
     out: &[u8],
     file_a: &[u8],
     file_b: &[u8],
@@ -199,15 +202,18 @@ fn write(
         front(picture_a, pixels_of(file_a)),
         front(picture_b, pixels_of(file_b)),
     );
-    let fd = files::open(out);
-    if fd < 0 {
-        return;
+    match files::open(rt, out) {
+        Some(mut to) => {
+            let written = to.write_all(front(&text, n));
+            files::close(rt, out, to, written);
+        }
+        None => {}
     }
-    files::close(out, fd, io::write_all(fd, front(&text, n)));
 }
 
 // The second capture played, beside a first one whose picture and rows, so many numbers, are there.
-fn with_second(
+fn with_second<R: Files + Print + Eprint>(
+    rt: &R,
     out: &[u8],
     file_a: &[u8],
     file_b: &[u8],
@@ -222,6 +228,7 @@ fn with_second(
 ) {
     let stored_b = play(file_b, old, new, states, picture_b, rows_b);
     write(
+        rt,
         out,
         file_a,
         file_b,
@@ -233,7 +240,8 @@ fn with_second(
 }
 
 // Two captures that passed their tests. The planes and states serve both, one after the other.
-fn perform(
+fn perform<R: Files + Print + Eprint>(
+    rt: &R,
     out: &[u8],
     file_a: &[u8],
     file_b: &[u8],
@@ -247,12 +255,13 @@ fn perform(
 ) {
     let stored_a = play(file_a, old, new, states, picture_a, rows_a);
     with_second(
-        out, file_a, file_b, stored_a, old, new, states, picture_a, picture_b, rows_a, rows_b,
+        rt, out, file_a, file_b, stored_a, old, new, states, picture_a, picture_b, rows_a, rows_b,
     );
 }
 
 // Captures of so many bytes in all, of which the first ones were read; both are judged.
-fn judge(
+fn judge<R: Files + Print + Eprint>(
+    rt: &R,
     name_a: &[u8],
     name_b: &[u8],
     bytes_a: u64,
@@ -268,8 +277,8 @@ fn judge(
     rows_a: &mut [u64],
     rows_b: &mut [u64],
 ) {
-    let first = refusals::turned_back(name_a, file_a, bytes_a);
-    let second = refusals::turned_back(name_b, file_b, bytes_b);
+    let first = refusals::turned_back(rt, name_a, file_a, bytes_a);
+    let second = refusals::turned_back(rt, name_b, file_b, bytes_b);
     if first {
         return;
     }
@@ -277,12 +286,13 @@ fn judge(
         return;
     }
     perform(
-        out, file_a, file_b, old, new, states, picture_a, picture_b, rows_a, rows_b,
+        rt, out, file_a, file_b, old, new, states, picture_a, picture_b, rows_a, rows_b,
     );
 }
 
 // The second capture, beside a first one of so many bytes that was read.
-fn read_second(
+fn read_second<R: Files + Input + Print + Eprint>(
+    rt: &R,
     name_a: &[u8],
     name_b: &[u8],
     bytes_a: u64,
@@ -297,10 +307,11 @@ fn read_second(
     rows_a: &mut [u64],
     rows_b: &mut [u64],
 ) {
-    let b = files::read(name_b, file_b);
+    let b = files::read(rt, name_b, file_b);
     match b {
         Got::Bytes(n, bytes_b) => {
             judge(
+                rt,
                 name_a,
                 name_b,
                 bytes_a,
@@ -322,7 +333,8 @@ fn read_second(
 }
 
 // The captures of these names.
-pub(crate) fn run(
+pub(crate) fn run<R: Files + Input + Print + Eprint>(
+    rt: &R,
     name_a: &[u8],
     name_b: &[u8],
     out: &[u8],
@@ -336,10 +348,11 @@ pub(crate) fn run(
     rows_a: &mut [u64],
     rows_b: &mut [u64],
 ) {
-    let a = files::read(name_a, file_a);
+    let a = files::read(rt, name_a, file_a);
     match a {
         Got::Bytes(n, bytes_a) => {
             read_second(
+                rt,
                 name_a,
                 name_b,
                 bytes_a,

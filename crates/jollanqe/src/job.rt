@@ -6,8 +6,10 @@ use crate::{comparing, help, task};
 use files::is_input;
 use shades::Tone;
 use showing::Form;
+use std::io::Input;
+use std::rt::Files;
 
-#[derive(Drop)]
+#[derive(Clone, Copy)]
 pub(crate) enum Word {
     Help,
     // A task on one capture.
@@ -96,21 +98,21 @@ fn target(line: &[u8], in_batch: bool) -> &[u8] {
 }
 
 // Whether a job of the batch names standard input, which is the batch itself.
-fn takes_batch(name: &[u8], in_batch: bool) -> bool {
+fn takes_batch<R: Eprint>(rt: &R, name: &[u8], in_batch: bool) -> bool {
     if !in_batch {
         return false;
     }
     if is_input(name) {
-        help::wanted(b"standard input is the batch itself: name a file");
+        help::wanted(rt, "standard input is the batch itself: name a file");
         return true;
     }
     false
 }
 
 // Whether a job would write over a file that it reads.
-fn writes_over(name: &[u8], out: &[u8]) -> bool {
+fn writes_over<R: Eprint>(rt: &R, name: &[u8], out: &[u8]) -> bool {
     if same(name, out) {
-        help::wanted(b"an input would be written over: name another file");
+        help::wanted(rt, "an input would be written over: name another file");
         return true;
     }
     false
@@ -161,7 +163,8 @@ fn tone(form: Form, line: &[u8], n: usize, at: usize) -> Chosen {
 }
 
 // A word of one file.
-fn one_file(
+fn one_file<R: Files + Input + Print + Eprint>(
+    rt: &R,
     task: Task,
     line: &[u8],
     in_batch: bool,
@@ -173,14 +176,17 @@ fn one_file(
     rows: &mut [u64],
 ) {
     if before_target(line, in_batch) != 2 {
-        help::wants_file(word(line, 0));
+        help::wants_file(rt, word(line, 0));
         return;
     }
-    with_file(task, line, in_batch, file, old, new, states, picture, rows);
+    with_file(
+        rt, task, line, in_batch, file, old, new, states, picture, rows,
+    );
 }
 
 // The picture of one file, perhaps at a top.
-fn one_picture(
+fn one_picture<R: Files + Input + Print + Eprint>(
+    rt: &R,
     form: Form,
     line: &[u8],
     in_batch: bool,
@@ -194,6 +200,7 @@ fn one_picture(
     let c = tone(form, line, before_target(line, in_batch), 2);
     match c {
         Chosen::Tone(tone) => with_file(
+            rt,
             Task::Show(tone),
             line,
             in_batch,
@@ -204,14 +211,15 @@ fn one_picture(
             picture,
             rows,
         ),
-        Chosen::Wrong => help::wants_picture(word(line, 0)),
-        Chosen::NoTop => help::wants_top(),
-        Chosen::NoPng => help::no_png(),
+        Chosen::Wrong => help::wants_picture(rt, word(line, 0)),
+        Chosen::NoTop => help::wants_top(rt),
+        Chosen::NoPng => help::no_png(rt),
     }
 }
 
 // The file that a line names.
-fn with_file(
+fn with_file<R: Files + Input + Print + Eprint>(
+    rt: &R,
     task: Task,
     line: &[u8],
     in_batch: bool,
@@ -223,14 +231,15 @@ fn with_file(
     rows: &mut [u64],
 ) {
     let name = word(line, 1);
-    if takes_batch(name, in_batch) {
+    if takes_batch(rt, name, in_batch) {
         return;
     }
     let out = target(line, in_batch);
-    if writes_over(name, out) {
+    if writes_over(rt, name, out) {
         return;
     }
     task::run(
+        rt,
         task,
         name,
         &line[0..0],
@@ -245,7 +254,8 @@ fn with_file(
 }
 
 // A file and a folder.
-fn into_folder(
+fn into_folder<R: Files + Input + Print + Eprint>(
+    rt: &R,
     line: &[u8],
     in_batch: bool,
     file: &mut [u8],
@@ -257,20 +267,22 @@ fn into_folder(
 ) {
     if before_target(line, in_batch) != 3 {
         help::wanted(
-            b"pictures wants a file and a folder, as in: jollanqe pictures night.capture night",
+            rt,
+            "pictures wants a file and a folder, as in: jollanqe pictures night.capture night",
         );
         return;
     }
     let name = word(line, 1);
-    if takes_batch(name, in_batch) {
+    if takes_batch(rt, name, in_batch) {
         return;
     }
     let dir = word(line, 2);
     let out = target(line, in_batch);
-    if writes_over(name, out) {
+    if writes_over(rt, name, out) {
         return;
     }
     task::run(
+        rt,
         Task::Watch(Watch::Pictures),
         name,
         dir,
@@ -285,36 +297,37 @@ fn into_folder(
 }
 
 // Whether both files are standard input, which can be read once.
-fn both_input(a: &[u8], b: &[u8]) -> bool {
+fn both_input<R: Eprint>(rt: &R, a: &[u8], b: &[u8]) -> bool {
     if !is_input(a) {
         return false;
     }
     if is_input(b) {
-        help::wanted(b"standard input can be one of the two files, not both");
+        help::wanted(rt, "standard input can be one of the two files, not both");
         return true;
     }
     false
 }
 
 // Whether two files and an output cannot be those of one job.
-fn clash(a: &[u8], b: &[u8], out: &[u8], in_batch: bool) -> bool {
-    if takes_batch(a, in_batch) {
+fn clash<R: Eprint>(rt: &R, a: &[u8], b: &[u8], out: &[u8], in_batch: bool) -> bool {
+    if takes_batch(rt, a, in_batch) {
         return true;
     }
-    if takes_batch(b, in_batch) {
+    if takes_batch(rt, b, in_batch) {
         return true;
     }
-    if both_input(a, b) {
+    if both_input(rt, a, b) {
         return true;
     }
-    if writes_over(a, out) {
+    if writes_over(rt, a, out) {
         return true;
     }
-    writes_over(b, out)
+    writes_over(rt, b, out)
 }
 
 // Two files.
-fn two_files(
+fn two_files<R: Files + Input + Print + Eprint>(
+    rt: &R,
     line: &[u8],
     in_batch: bool,
     file: &mut [u8],
@@ -328,16 +341,20 @@ fn two_files(
     other_rows: &mut [u64],
 ) {
     if before_target(line, in_batch) != 3 {
-        help::wanted(b"compare wants two files, as in: jollanqe compare good.capture bad.capture");
+        help::wanted(
+            rt,
+            "compare wants two files, as in: jollanqe compare good.capture bad.capture",
+        );
         return;
     }
     let a = word(line, 1);
     let b = word(line, 2);
     let out = target(line, in_batch);
-    if clash(a, b, out, in_batch) {
+    if clash(rt, a, b, out, in_batch) {
         return;
     }
     comparing::run(
+        rt,
         a,
         b,
         out,
@@ -378,7 +395,8 @@ fn choose(line: &[u8], n: usize) -> Chosen {
 }
 
 // A configuration and a dump.
-fn dump(
+fn dump<R: Files + Input + Print + Eprint>(
+    rt: &R,
     line: &[u8],
     in_batch: bool,
     file: &mut [u8],
@@ -395,30 +413,31 @@ fn dump(
             let config = word(line, 1);
             let name = word(line, 2);
             let out = target(line, in_batch);
-            if clash(config, name, out, in_batch) {
+            if clash(rt, config, name, out, in_batch) {
                 return;
             }
             dumping::run(
-                config, name, tone, out, file, other, old, new, states, picture, rows,
+                rt, config, name, tone, out, file, other, old, new, states, picture, rows,
             );
         }
-        Chosen::Wrong => help::wants_dump(),
-        Chosen::NoTop => help::wants_top(),
-        Chosen::NoPng => help::no_png(),
+        Chosen::Wrong => help::wants_dump(rt),
+        Chosen::NoTop => help::wants_top(rt),
+        Chosen::NoPng => help::no_png(rt),
     }
 }
 
 // `help` stands alone.
-fn say_help(line: &[u8]) {
+fn say_help<R: Print + Eprint>(rt: &R, line: &[u8]) {
     if count(line) == 1 {
-        help::say();
+        help::say(rt);
         return;
     }
-    help::wanted(b"help stands alone, and writes to standard output");
+    help::wanted(rt, "help stands alone, and writes to standard output");
 }
 
 // The job of a line.
-pub(crate) fn run(
+pub(crate) fn run<R: Files + Input + Print + Eprint>(
+    rt: &R,
     line: &[u8],
     in_batch: bool,
     file: &mut [u8],
@@ -436,13 +455,16 @@ pub(crate) fn run(
     }
     let w = sort(word(line, 0));
     match w {
-        Word::Help => say_help(line),
-        Word::Task(task) => one_file(task, line, in_batch, file, old, new, states, picture, rows),
-        Word::Picture(form) => one_picture(
-            form, line, in_batch, file, old, new, states, picture, rows,
+        Word::Help => say_help(rt, line),
+        Word::Task(task) => one_file(
+            rt, task, line, in_batch, file, old, new, states, picture, rows,
         ),
-        Word::Pictures => into_folder(line, in_batch, file, old, new, states, picture, rows),
+        Word::Picture(form) => one_picture(
+            rt, form, line, in_batch, file, old, new, states, picture, rows,
+        ),
+        Word::Pictures => into_folder(rt, line, in_batch, file, old, new, states, picture, rows),
         Word::Compare => two_files(
+            rt,
             line,
             in_batch,
             file,
@@ -455,7 +477,9 @@ pub(crate) fn run(
             rows,
             other_rows,
         ),
-        Word::Dump => dump(line, in_batch, file, other, old, new, states, picture, rows),
-        Word::Unknown => help::no_word(word(line, 0)),
+        Word::Dump => dump(
+            rt, line, in_batch, file, other, old, new, states, picture, rows,
+        ),
+        Word::Unknown => help::no_word(rt, word(line, 0)),
     }
 }

@@ -11,11 +11,16 @@ mod replay;
 mod task;
 mod words;
 
-use files::{Reading, read_line};
-use input::front;
-use libc::{STDERR_FILENO, STDIN_FILENO};
 use diagnostic_log::ROWS;
+use files::{Reading, read_line, tell};
+use input::front;
 use showing::INPUT;
+use std::env::FillError;
+use std::fs;
+use std::fs::{File, OpenOptions};
+use std::io::{Error, Input, Read};
+use std::os::fd::AsRawFd;
+use std::rt::{Env, Files};
 
 // The pixels of the largest panel, 800 by 600.
 const PIXELS: usize = 480_000;
@@ -37,14 +42,16 @@ fn separate(line: &mut [u8]) {
 }
 
 // The next line of standard input.
-fn next_line(line: &mut [u8]) -> Reading {
-    let got = read_line(STDIN_FILENO, line);
+fn next_line<I: Read>(input: &mut I, line: &mut [u8]) -> Reading {
+    let got = read_line(input, line);
     separate(line);
     got
 }
 
 // The next job of standard input, and whether there was one.
-fn next_job(
+fn next_job<R: Files + Input + Print + Eprint, I: Read>(
+    rt: &R,
+    input: &mut I,
     line: &mut [u8],
     file: &mut [u8],
     other: &mut [u8],
@@ -56,10 +63,11 @@ fn next_job(
     rows: &mut [u64],
     other_rows: &mut [u64],
 ) -> bool {
-    let got = next_line(line);
+    let got = next_line(input, line);
     match got {
         Reading::Line(n) => {
             job::run(
+                rt,
                 front(line, n),
                 true,
                 file,
@@ -75,19 +83,21 @@ fn next_job(
             true
         }
         Reading::TooLong => {
-            io::write_all(STDERR_FILENO, b"a line is longer than 8,192 bytes\n");
+            let _ = eprintln!(rt; "a line is longer than 8,192 bytes");
             true
         }
         Reading::End => false,
-        Reading::Failed => {
-            os::fail(b"standard input");
+        Reading::Failed(error) => {
+            tell(rt, b"standard input", error);
             false
         }
     }
 }
 
 // The jobs of standard input, in turn. Nothing says that an input ends, so the turns are counted.
-fn batch(
+fn batch<R: Files + Input + Print + Eprint, I: Read>(
+    rt: &R,
+    input: &mut I,
     line: &mut [u8],
     file: &mut [u8],
     other: &mut [u8],
@@ -102,6 +112,8 @@ fn batch(
     let mut turns = base::TOP;
     while 0 < turns {
         if !next_job(
+            rt,
+            input,
             line,
             file,
             other,
@@ -119,54 +131,73 @@ fn batch(
     }
 }
 
-// Opens the null device, and whether it got the place of a standard stream that was closed: one
-// that cannot be read for the input, one that cannot be written for the others, so that using it
-// fails as before.
-fn held_place() -> bool {
-    let unread = os::open_append(b"/dev/null");
-    if unread == STDIN_FILENO {
-        return true;
+// The null device where it got the place of a standard stream that was closed: one that cannot be
+// read for the input, one that cannot be written for the others, so that using it fails as before.
+fn held_place(rt: &HostRuntime) -> Option<File> {
+    if let Ok(unread) = OpenOptions::new().append(true).open(rt, "/dev/null") {
+        if unread.as_raw_fd() == 0 {
+            return Some(unread);
+        }
     }
-    libc::close(unread);
-    let unwritten = os::open_read(b"/dev/null");
-    if unwritten <= STDERR_FILENO {
-        return true;
+    if let Ok(unwritten) = fs::open(rt, "/dev/null") {
+        if unwritten.as_raw_fd() <= 2 {
+            return Some(unwritten);
+        }
     }
-    libc::close(unwritten);
-    false
+    None
 }
 
 // No file that a job opens may take the place of a standard stream: what is said on it would be
-// written there.
-fn hold_streams() {
-    if held_place() {
-        if held_place() {
-            held_place();
-        }
+// written there. What is handed back holds the places.
+fn hold_streams(rt: &HostRuntime) -> [Option<File>; 3] {
+    let first = held_place(rt);
+    if first.is_none() {
+        return [first, None, None];
+    }
+    let second = held_place(rt);
+    if second.is_none() {
+        return [first, second, None];
+    }
+    let third = held_place(rt);
+    [first, second, third]
+}
+
+// Whether the program was started with no word.
+fn is_batch<R: Env>(rt: &R) -> bool {
+    let mut space = [0u8; 1];
+    match rt.arg(1, &mut space) {
+        Ok(_) => false,
+        Err(FillError::NotPresent) => true,
+        Err(FillError::TooLong) => false,
     }
 }
 
+// ENAMETOOLONG.
+const TOO_LONG: i32 = 36;
+
 // The arguments as a line, a zero behind each; the answer is how many bytes it has. None of a word
 // that is empty or does not fit.
-fn gather(line: &mut [u8]) -> usize {
-    let count = os::arg_count();
-    let mut space = io::buffer();
+fn gather<R: Env + Eprint>(rt: &R, line: &mut [u8]) -> usize {
+    let mut space = [0u8; 4096];
     let mut held: usize = 0;
     let mut i: usize = 1;
-    while i < count {
-        let n = os::arg(i, &mut space);
-        if os::errno() != 0 {
-            os::fail(b"arguments");
-            return 0;
-        }
+    while i < usize::MAX {
+        let n = match rt.arg(i, &mut space) {
+            Ok(n) => n,
+            Err(FillError::NotPresent) => return held,
+            Err(FillError::TooLong) => {
+                tell(rt, b"arguments", Error::from_raw_os_error(TOO_LONG));
+                return 0;
+            }
+        };
         if n == 0 {
-            help::wanted(b"one of the words is empty");
+            help::wanted(rt, "one of the words is empty");
             return 0;
         }
         held = text::put(line, held, front(&space, n));
         held = text::byte(line, held, 0);
         if line.len() <= held {
-            help::wanted(b"the words have more than 8,190 bytes together");
+            help::wanted(rt, "the words have more than 8,190 bytes together");
             return 0;
         }
         i += 1;
@@ -174,7 +205,7 @@ fn gather(line: &mut [u8]) -> usize {
     held
 }
 
-fn main() {
+fn main(rt: HostRuntime) {
     let mut line = [0u8; LINE];
     let mut file = [0u8; INPUT];
     let mut other = [0u8; INPUT];
@@ -185,9 +216,12 @@ fn main() {
     let mut other_picture = [0u8; PIXELS];
     let mut rows = [0u64; ROWS];
     let mut other_rows = [0u64; ROWS];
-    hold_streams();
-    if os::arg_count() <= 1 {
+    let _held = hold_streams(&rt);
+    if is_batch(&rt) {
+        let mut input = rt.reader();
         batch(
+            &rt,
+            &mut input,
             &mut line,
             &mut file,
             &mut other,
@@ -201,8 +235,9 @@ fn main() {
         );
         return;
     }
-    let n = gather(&mut line);
+    let n = gather(&rt, &mut line);
     job::run(
+        &rt,
         front(&line, n),
         false,
         &mut file,

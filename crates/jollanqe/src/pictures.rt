@@ -2,10 +2,14 @@
 ghost use Rattle.std.specs.Prelude.{◌++◌};
 ghost use Rattle.text.specs.Text.{Puts, ascii, digits};
 
+use diagnostic_log::Log;
+use files::{create, path, tell};
 use glass::PanelImage;
 use input::front;
-use diagnostic_log::Log;
 use output::{Came, Form, Outcome};
+use std::io::{Error, ErrorKind, Write};
+use std::rt::Files;
+use std::{fs, io};
 use text::{decimal, put};
 
 // `DIR/GENERATION.png`
@@ -30,7 +34,7 @@ fn outcome(image: PanelImage) -> Outcome {
 }
 
 // The picture, part by part, up to a write that fails.
-fn write_parts(fd: i32, o: Outcome, picture: &[u8]) -> bool {
+fn write_parts<W: Write>(to: &mut W, o: Outcome, picture: &[u8]) -> io::Result<()> {
     let mut text = [0u8; crate::ROOM];
     let answers = [0u16; 1];
     let rows = [0u64; 1];
@@ -39,40 +43,45 @@ fn write_parts(fd: i32, o: Outcome, picture: &[u8]) -> bool {
     while from < end {
         let part = output::next_part(&mut text, Form::Png, o, b"", &answers, picture, &rows, from);
         if part.next <= from {
-            return false;
+            return Err(Error::from(ErrorKind::WriteZero));
         }
-        if !io::write_all(fd, front(&text, part.held)) {
-            return false;
-        }
+        to.write_all(front(&text, part.held))?;
         from = part.next;
     }
-    true
+    Ok(())
+}
+
+// The picture in a file of that name.
+fn write_new<R: Files>(rt: &R, name: &[u8], o: Outcome, picture: &[u8]) -> io::Result<()> {
+    let mut file = create(rt, name)?;
+    write_parts(&mut file, o, picture)
 }
 
 // The picture in a file of that name; what fails is said.
-fn write_file(name: &[u8], o: Outcome, picture: &[u8]) -> bool {
-    let fd = os::open_overwrite(name);
-    if fd < 0 {
-        os::fail(name);
-        return false;
+fn write_file<R: Files + Eprint>(rt: &R, name: &[u8], o: Outcome, picture: &[u8]) -> bool {
+    match write_new(rt, name, o, picture) {
+        Ok(()) => true,
+        Err(error) => {
+            tell(rt, name, error);
+            false
+        }
     }
-    let written = write_parts(fd, o, picture);
-    if !written {
-        os::fail(name);
-    }
-    libc::close(fd);
-    written
 }
 
 // The picture in the folder; what fails is said.
-pub(crate) fn keep(image: PanelImage, dir: &[u8], picture: &[u8]) -> bool {
+pub(crate) fn keep<R: Files + Eprint>(
+    rt: &R,
+    image: PanelImage,
+    dir: &[u8],
+    picture: &[u8],
+) -> bool {
     let mut name = [0u8; crate::ROOM];
     let n = file_name(&mut name, 0, dir, image.generation);
-    write_file(front(&name, n), outcome(image), picture)
+    write_file(rt, front(&name, n), outcome(image), picture)
 }
 
 // Its head, as `panel` writes it: the line behind the dropped count.
-pub(crate) fn say(image: PanelImage, fd: i32, picture: &[u8]) -> bool {
+pub(crate) fn say<W: Write>(image: PanelImage, to: &mut W, picture: &[u8]) -> io::Result<()> {
     let mut text = [0u8; 256];
     let answers = [0u16; 1];
     let rows = [0u64; 1];
@@ -88,17 +97,25 @@ pub(crate) fn say(image: PanelImage, fd: i32, picture: &[u8]) -> bool {
         &rows,
         1,
     );
-    io::write_all(fd, front(&text, n))
+    to.write_all(front(&text, n))
+}
+
+// The folder of that name, which is not there.
+fn make_new<R: Files>(rt: &R, dir: &[u8]) -> io::Result<()> {
+    let path = path(dir)?;
+    fs::create_dir(rt, path)
 }
 
 // The folder; one that is there already is as good. What fails is said.
-pub(crate) fn make(dir: &[u8]) -> bool {
-    if os::mkdir(dir) == 0 {
-        return true;
+pub(crate) fn make<R: Files + Eprint>(rt: &R, dir: &[u8]) -> bool {
+    match make_new(rt, dir) {
+        Ok(()) => true,
+        Err(error) => match error.kind() {
+            ErrorKind::AlreadyExists => true,
+            _ => {
+                tell(rt, dir, error);
+                false
+            }
+        },
     }
-    if os::errno() == libc::EEXIST {
-        return true;
-    }
-    os::fail(dir);
-    false
 }

@@ -1,7 +1,7 @@
 // What a capture that is turned back is told by.
 use base::Refusal;
+use files::Shown;
 use input::front;
-use libc::{STDERR_FILENO, STDOUT_FILENO};
 use reasons::Reason;
 use showing::{Form, tested};
 
@@ -14,27 +14,28 @@ fn why(file: &[u8], bytes: u64) -> Reason {
 }
 
 // The words of a refusal, on standard error behind the file's name.
-pub(crate) fn tell(name: &[u8], file: &[u8], bytes: u64, refused: Refusal) {
+pub(crate) fn tell<R: Eprint>(rt: &R, name: &[u8], file: &[u8], bytes: u64, refused: Refusal) {
     let mut text = [0u8; 256];
     let n = reasons::words(&mut text, 0, refused.number());
     let m = reasons::because(&mut text, n, why(file, bytes));
-    io::write_all(STDERR_FILENO, name);
-    io::write_all(STDERR_FILENO, b": ");
-    io::write_all(STDERR_FILENO, front(&text, m));
-    io::write_all(STDERR_FILENO, b"\n");
+    let shown = Shown { name };
+    let words = Shown {
+        name: front(&text, m),
+    };
+    let _ = eprintln!(rt; "{shown}: {words}");
 }
 
 // Whether one of several files is turned back, which is then said with its name.
-pub(crate) fn turned_back(name: &[u8], file: &[u8], bytes: u64) -> bool {
+pub(crate) fn turned_back<R: Print + Eprint>(rt: &R, name: &[u8], file: &[u8], bytes: u64) -> bool {
     let refused = tested(Form::Lines, file);
     if refused.none() {
         return false;
     }
     let mut text = [0u8; crate::ROOM];
     let n = differences::refused_line(&mut text, 0, refused.number(), name);
-    if !io::write_all(STDOUT_FILENO, front(&text, n)) {
-        os::fail(b"standard output");
+    if let Err(error) = rt.write_all(front(&text, n)) {
+        files::tell(rt, b"standard output", error);
     }
-    tell(name, file, bytes, refused);
+    tell(rt, name, file, bytes, refused);
     true
 }

@@ -3,13 +3,15 @@
 use crate::comparing::config_at;
 use crate::replay::{Ended, Watch};
 use crate::{pictures, refusals, replay};
-use files::Got;
+use files::{Got, tell};
 use input::front;
-use libc::STDOUT_FILENO;
 use shades::Tone;
 use showing::{Form, shade, show, tested};
+use std::io;
+use std::io::Write;
+use std::rt::Files;
 
-#[derive(Drop)]
+#[derive(Clone, Copy)]
 pub(crate) enum Task {
     Show(Tone),
     Watch(Watch),
@@ -18,61 +20,63 @@ pub(crate) enum Task {
 }
 
 // Whether the output could be written, or what failed was said already.
-fn is_written(ended: Ended) -> bool {
+fn is_written(ended: Ended) -> io::Result<()> {
     match ended {
-        Ended::Whole => true,
-        Ended::Unwritten => false,
-        Ended::Said => true,
+        Ended::Whole => Ok(()),
+        Ended::Unwritten(error) => Err(error),
+        Ended::Said => Ok(()),
     }
 }
 
 // The configuration of a capture that is not turned back.
-fn write_config(capture: &[u8], fd: i32) -> bool {
+fn write_config<W: Write>(capture: &[u8], to: &mut W) -> io::Result<()> {
     let c = capture::read(capture);
-    io::write_all(fd, config_at(capture, c.end))
+    to.write_all(config_at(capture, c.end))
 }
 
 // The lines, or the picture, at a top of its own or as it is.
-fn show_by(
+fn show_by<W: Write>(
     tone: Tone,
     capture: &[u8],
-    fd: i32,
+    to: &mut W,
     old: &mut [u8],
     new: &mut [u8],
     states: &mut [i64],
     picture: &mut [u8],
     rows: &mut [u64],
-) -> bool {
+) -> io::Result<()> {
     let form = tone.form;
     if tone.wide {
-        return shade(capture, form, tone.top, fd, old, new, states, picture, rows);
+        return shade(capture, form, tone.top, to, old, new, states, picture, rows);
     }
-    show(capture, form, fd, old, new, states, picture, rows)
+    show(capture, form, to, old, new, states, picture, rows)
 }
 
-// A capture that is not turned back, to a descriptor; the answer is whether that could be written.
-fn write(
+// A capture that is not turned back, to an output; the answer is whether that could be written.
+fn write<R: Files + Eprint, W: Write>(
+    rt: &R,
     task: Task,
     capture: &[u8],
     dir: &[u8],
-    fd: i32,
+    to: &mut W,
     old: &mut [u8],
     new: &mut [u8],
     states: &mut [i64],
     picture: &mut [u8],
     rows: &mut [u64],
-) -> bool {
+) -> io::Result<()> {
     match task {
-        Task::Show(tone) => show_by(tone, capture, fd, old, new, states, picture, rows),
+        Task::Show(tone) => show_by(tone, capture, to, old, new, states, picture, rows),
         Task::Watch(watch) => is_written(replay::replay(
-            watch, capture, dir, fd, old, new, states, picture, rows,
+            rt, watch, capture, dir, to, old, new, states, picture, rows,
         )),
-        Task::Config => write_config(capture, fd),
+        Task::Config => write_config(capture, to),
     }
 }
 
 // Its folder, if it has one, and its output are made only here, once nothing turns the capture back.
-fn perform(
+fn perform<R: Files + Print + Eprint>(
+    rt: &R,
     task: Task,
     capture: &[u8],
     dir: &[u8],
@@ -84,20 +88,24 @@ fn perform(
     rows: &mut [u64],
 ) {
     if dir.len() != 0 {
-        if !pictures::make(dir) {
+        if !pictures::make(rt, dir) {
             return;
         }
     }
-    let fd = files::open(out);
-    if fd < 0 {
-        return;
+    match files::open(rt, out) {
+        Some(mut to) => {
+            let written = write(
+                rt, task, capture, dir, &mut to, old, new, states, picture, rows,
+            );
+            files::close(rt, out, to, written);
+        }
+        None => {}
     }
-    let written = write(task, capture, dir, fd, old, new, states, picture, rows);
-    files::close(out, fd, written);
 }
 
 // A capture of so many bytes in all, of which the first ones were read.
-fn judge(
+fn judge<R: Files + Print + Eprint>(
+    rt: &R,
     task: Task,
     name: &[u8],
     capture: &[u8],
@@ -112,26 +120,29 @@ fn judge(
 ) {
     let refused = tested(Form::Lines, capture);
     if refused.none() {
-        perform(task, capture, dir, out, old, new, states, picture, rows);
+        perform(rt, task, capture, dir, out, old, new, states, picture, rows);
         return;
     }
-    if !show(
+    let mut to = io::writer(rt);
+    let written = show(
         capture,
         Form::Lines,
-        STDOUT_FILENO,
+        &mut to,
         old,
         new,
         states,
         picture,
         rows,
-    ) {
-        os::fail(b"standard output");
+    );
+    if let Err(error) = written {
+        tell(rt, b"standard output", error);
     }
-    refusals::tell(name, capture, bytes, refused);
+    refusals::tell(rt, name, capture, bytes, refused);
 }
 
 // The capture of that name; the folder is empty where the task has none.
-pub(crate) fn run(
+pub(crate) fn run<R: Files + io::Input + Print + Eprint>(
+    rt: &R,
     task: Task,
     name: &[u8],
     dir: &[u8],
@@ -143,10 +154,11 @@ pub(crate) fn run(
     picture: &mut [u8],
     rows: &mut [u64],
 ) {
-    let got = files::read(name, file);
+    let got = files::read(rt, name, file);
     match got {
         Got::Bytes(n, bytes) => {
             judge(
+                rt,
                 task,
                 name,
                 front(file, n),

@@ -85,7 +85,7 @@ pub(crate) fn same(a: &[u8], b: &[u8]) -> bool {
 }
 
 // A top as a word gives it.
-#[derive(Drop)]
+#[derive(Clone, Copy)]
 pub(crate) enum Top {
     Is(u16),
     // No number from 0 to 65,535.

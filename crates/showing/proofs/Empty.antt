@@ -1,18 +1,15 @@
 -- An empty evening (2026-06): what is written of a file of zero bytes, and of one of 1 to 319. By computing the tests on its length.
-use mathlib.Core.Path.{◌≡◌, refl, ap, ◌∙◌}
-use mathlib.Core.Bool.{true, false}
+use mathlib.Core.Path.{◌≡◌, refl}
+use mathlib.Core.Bool.{false}
 use mathlib.Core.List.{List, [], ◌∷◌}
 use Prim.Native.Nat.{ℕ, ◌<◌}
 use native.Mathlib.Omega.{arith}
 use lib.ListN.{length}
 use borrow.Author.Tests.{lt-ltb, ne_eqb}
 use Rattle.base.proofs.Cases.{by_cases}
-use Rattle.outcome.specs.declared.Came.TheVariants.{NoEvents, Refused}
-use Rattle.outcome.specs.Came.{panel_came}
 use Rattle.output.specs.declared.Form.{Form}
 use Rattle.output.specs.declared.Form.TheVariants as form
 use Rattle.output.specs.Lines.{no_events_line, refused_line}
-use Rattle.output.specs.Units.{units_of}
 use Rattle.output.proofs.UnitLaws.{units_none, units_refused}
 use Rattle.capture.specs.Refused.{broken, file_refused}
 use Rattle.controller.specs.World.{Buffers}

@@ -3,11 +3,9 @@ use mathlib.Core.Path.{◌≡◌, refl, ◌∙◌}
 use mathlib.Core.Bool.{Bool, true, false}
 use mathlib.Core.List.{List}
 use Prim.Native.Nat.{ℕ, ◌+◌, ◌<◌}
-use native.Mathlib.Omega.{arith}
 use lib.Dec.{eqb}
 use lib.ListN.{take}
 use borrow.Author.Tests.{eqb-false}
-use Rattle.base.specs.Pick.{pick}
 use Rattle.base.specs.RefusalNumbers.{refusal_number}
 use Rattle.capture.specs.declared.reading.Capture.{Capture}
 use Rattle.capture.specs.Layout.{offset_of, config_in}

@@ -1,10 +1,10 @@
 -- The front of what is lent, of the panel's size or as far as there is room: cut by the smaller of the two.
-use mathlib.Core.Path.{◌≡◌, refl, sym, ap, ◌∙◌}
+use mathlib.Core.Path.{◌≡◌, sym, ap, ◌∙◌}
 use mathlib.Core.List.{List, ◌++◌}
 use Prim.Native.Nat.{ℕ, ◌≤◌, min}
 use native.Mathlib.Decide.{dec_le}
 use native.Mathlib.Omega.{arith}
-use lib.IntN.{ℤ, pos}
+use lib.IntN.{pos}
 use lib.ListN.{length, take, drop, replicate, length-take, length-replicate, drop_of_length-le}
 use lib.Seq.{take_all, length-take-le}
 use Rattle.config.specs.declared.Uc8253Config.{Uc8253Config}
@@ -12,7 +12,7 @@ use Rattle.capture.specs.Layout.{config_in, pixel_count}
 use Rattle.controller.specs.World.{Buffers, buffers}
 use Rattle.output.specs.declared.Form.{Form}
 use Rattle.showing.specs.Played.{played}
-use Rattle.showing.specs.Shown.{panel_size, fitted, left_by, sizes_of, blank, Fits}
+use Rattle.showing.specs.Shown.{panel_size, fitted, left_by, sizes_of, Fits}
 
 module _ {A : Type 0} (l : List A) (p : ℕ) where
   pub take_cut : take (min p (length l)) l ≡ take p l

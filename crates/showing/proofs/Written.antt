@@ -14,7 +14,7 @@ use Rattle.output.specs.declared.Form.{Form}
 use Rattle.output.specs.Units.{played_of, units_by, units_of}
 use Rattle.capture.specs.Layout.{config_in}
 use Rattle.controller.specs.declared.Uc8253.{Uc8253}
-use Rattle.controller.specs.World.{World, Buffers, world}
+use Rattle.controller.specs.World.{Buffers, world}
 use Rattle.controller.specs.TurnedBack.{bad_config, foreign_record, lengths_fit, making_refused}
 use Rattle.controller.specs.Calls.{wide_refused, wide_answer, no_config, no_registers, zeros, made}
 use Rattle.shades.specs.Shades.{shades_of}

@@ -1,6 +1,5 @@
 -- `showing::came_of` meets its contract, for `panel` and for the others.
 use mathlib.Core.Path.{sym, ◌∙◌}
-use borrow.Author.Rules.{rules}
 use Rattle.showing.proofs.came_of.Goals as goal
 
 pub returns-then-is_panel : goal.returns-then-is_panel

@@ -1,7 +1,6 @@
 -- `showing::shade` meets its contract: the front of what is lent is cut to the panel's size, and what lies behind it stays.
 use Rattle.controller.specs.World.{Buffers, buffers}
 use Rattle.showing.proofs.Fitted.{length_front, size_read, fits_cut, left_by_lem}
-use borrow.Author.Rules.{rules}
 use Rattle.showing.proofs.shade.Goals as goal
 
 pub slice_bounds-shade_in-end-3 : goal.slice_bounds-shade_in-end-3

@@ -2,7 +2,6 @@
 use mathlib.Core.Path.{ap}
 use Rattle.controller.specs.World.{World, Buffers, buffers}
 use Rattle.showing.proofs.Written.{shaded}
-use borrow.Author.Rules.{rules}
 use Rattle.showing.proofs.shade_in.Goals as goal
 
 pub tone-requires : goal.tone-requires

@@ -2,7 +2,6 @@
 use mathlib.Core.Path.{refl}
 use Rattle.controller.specs.World.{Buffers, buffers}
 use Rattle.showing.proofs.Fitted.{length_front, size_read, fits_cut, left_by_lem}
-use borrow.Author.Rules.{rules}
 use Rattle.showing.proofs.show.Goals as goal
 
 pub slice_bounds-show_in-end-3 : goal.slice_bounds-show_in-end-3

@@ -3,7 +3,6 @@ use mathlib.Core.Path.{ap, ◌∙◌}
 use Rattle.controller.specs.World.{World, Buffers, buffers}
 use Rattle.showing.specs.Output.{came_of}
 use Rattle.showing.proofs.Written.{written}
-use borrow.Author.Rules.{rules}
 use Rattle.showing.proofs.show_in.Goals as goal
 
 pub write-requires : goal.write-requires

@@ -1,7 +1,6 @@
 -- `showing::show_panel` meets its contract: the planes are what playing in its own buffers left in them.
 use mathlib.Core.Path.{ap}
 use Rattle.controller.specs.World.{Buffers}
-use borrow.Author.Rules.{rules}
 use Rattle.showing.proofs.show_panel.Goals as goal
 
 pub returns-then-is_err : goal.returns-then-is_err

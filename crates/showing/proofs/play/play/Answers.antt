@@ -1,5 +1,5 @@
 -- `showing::play::play` meets its contract: made and run, or refused.
-use mathlib.Core.Path.{sym, ap, subst, ◌∙◌}
+use mathlib.Core.Path.{sym, ap, subst}
 use Prim.Native.Nat.{ℕ, ◌≤◌}
 use lib.ListN.{length}
 use lib.Seq.{length-take-le}
@@ -8,7 +8,6 @@ use Rattle.capture.proofs.CaptureLaws.{events_within}
 use Rattle.controller.specs.World.{Buffers, buffers, world}
 use Rattle.controller.specs.declared.Uc8253.{Uc8253}
 use Rattle.showing.proofs.FileLaws.{program_number, play_no, play_no_answers, play_no_number, play_yes, play_yes_answers, play_yes_number}
-use borrow.Author.Rules.{rules}
 use Rattle.showing.proofs.play.play.Goals as goal
 
 pub slice_bounds-play-end : goal.slice_bounds-play-end

@@ -1,7 +1,6 @@
 -- `showing::play::refusal` meets its contract: the tests in turn.
 use mathlib.Core.Path.{sym, ◌∙◌}
 use borrow.Author.Tests.{eqb-true}
-use borrow.Author.Rules.{rules}
 use Rattle.showing.proofs.play.refusal.Goals as goal
 
 pub returns-then-too_many : goal.returns-then-too_many

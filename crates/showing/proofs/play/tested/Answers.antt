@@ -1,6 +1,5 @@
 -- `showing::play::tested` meets its contract: what was read, and the word's own test.
 use Rattle.showing.proofs.FileLaws.{program_number}
-use borrow.Author.Rules.{rules}
 use Rattle.showing.proofs.play.tested.Goals as goal
 
 pub returns : goal.returns

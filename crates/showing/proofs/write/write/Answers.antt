@@ -5,7 +5,6 @@ use lib.ListN.{length, take}
 use lib.Seq.{length-take-le}
 use Rattle.capture.proofs.CaptureLaws.{events_within}
 use Rattle.output.specs.Units.{units_of}
-use borrow.Author.Rules.{rules}
 use Rattle.showing.proofs.write.write.Goals as goal
 
 pub slice_bounds-write_parts-end-2 : goal.slice_bounds-write_parts-end-2

@@ -1,12 +1,7 @@
 -- `showing::write::write_parts` meets what it calls asks: each part is units of the output. The measure is the units that are left.
-use mathlib.Core.Path.{◌≡◌, sym, ap, ◌∙◌}
+use mathlib.Core.Path.{◌≡◌}
 use Prim.Native.Nat.{◌-◌}
-use native.Mathlib.Omega.{arith}
 use lib.ListN.{length}
-use lib.Seq.{length-take-le}
-use Rattle.output.specs.Parts.{units_from}
-use Rattle.output.proofs.PartLaws.{part_is, part_within, part_on}
-use borrow.Author.Rules.{rules}
 use Rattle.showing.proofs.write.write_parts.Given as goal
 
 abbrev pub invariant-loop-from : goal.invariant-loop-from

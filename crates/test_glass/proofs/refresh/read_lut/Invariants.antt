@@ -1,5 +1,4 @@
 -- `test_glass::refresh::read_lut` is safe: at most 42 bytes are stored.
-use borrow.Author.Rules.{rules}
 use Prim.Native.Nat.{◌-◌, ◌≤◌}
 use mathlib.Core.Path.{◌≡◌}
 use lib.ListN.{length}

@@ -1,5 +1,4 @@
 -- `test_glass::refresh::read_waveform` is safe: five tables are stored.
-use borrow.Author.Rules.{rules}
 use Prim.Native.Nat.{◌-◌, ◌≤◌}
 use Rattle.test_glass.proofs.refresh.read_waveform.Given as goal
 
