@@ -2,7 +2,6 @@
 use Prim.Native.Nat.{ℕ}
 use native.Mathlib.Omega.{arith}
 use Rattle.showing.proofs.Zeros.{length_part}
-use borrow.Author.Rules.{rules}
 use Rattle.test_calls.proofs.retrace_sized.Goals as goal
 
 pub slice_bounds-retrace_next-end : goal.slice_bounds-retrace_next-end

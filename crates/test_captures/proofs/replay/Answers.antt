@@ -2,7 +2,6 @@
 use Prim.Native.Nat.{ℕ}
 use native.Mathlib.Omega.{arith}
 use Rattle.showing.proofs.Zeros.{length_part}
-use borrow.Author.Rules.{rules}
 use Rattle.test_captures.proofs.replay.Goals as goal
 
 pub slice_bounds-play_next-end : goal.slice_bounds-play_next-end

@@ -1,5 +1,4 @@
 -- `test_calls::digest::digested` is safe and ends: fewer bytes are left after each turn.
-use borrow.Author.Rules.{rules}
 use Prim.Native.Nat.{◌-◌}
 use lib.ListN.{length}
 use Rattle.test_calls.proofs.digest.digested.Given as goal

@@ -1,5 +1,4 @@
 -- `test_calls::trace::meet` is safe and ends: no call changes a length.
-use borrow.Author.Rules.{rules}
 use Rattle.test_calls.proofs.trace.meet.Goals as goal
 
 pub shape_of-old : goal.shape_of-old

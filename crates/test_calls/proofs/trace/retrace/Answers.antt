@@ -2,7 +2,6 @@
 use Rattle.showing.proofs.Zeros.{length_part}
 use lib.IntN.{ℤ, pos}
 use Prim.Native.Nat.{ℕ}
-use borrow.Author.Rules.{rules}
 use Rattle.test_calls.proofs.trace.retrace.Goals as goal
 
 pub slice_bounds-retrace_in-end-3 : goal.slice_bounds-retrace_in-end-3

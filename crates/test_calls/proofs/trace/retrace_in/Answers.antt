@@ -1,6 +1,5 @@
 -- `test_calls::trace::retrace_in` is safe and ends: no call changes a length.
 use mathlib.Core.Path.{◌∙◌}
-use borrow.Author.Rules.{rules}
 use Rattle.test_calls.proofs.trace.retrace_in.Goals as goal
 
 pub shape_of-old : goal.shape_of-old
