@@ -180,8 +180,7 @@ const TOO_LONG: i32 = 36;
 fn gather<R: Env + Eprint>(rt: &R, line: &mut [u8]) -> usize {
     let mut space = [0u8; 4096];
     let mut held: usize = 0;
-    let mut i: usize = 1;
-    while i < usize::MAX {
+    for i in 1..usize::MAX {
         let n = match rt.arg(i, &mut space) {
             Ok(n) => n,
             Err(FillError::NotPresent) => return held,
@@ -200,7 +199,6 @@ fn gather<R: Env + Eprint>(rt: &R, line: &mut [u8]) -> usize {
             help::wanted(rt, "the words have more than 8,190 bytes together");
             return 0;
         }
-        i += 1;
     }
     held
 }

@@ -47,4 +47,4 @@ pub shape_of-rows : goal.shape_of-rows
 shape_of-rows c = c.loop-i.invariant.1.rows_long
 
 pub returns : goal.returns
-returns c = let l = c.loop-i in let a = c.args in let w = world a.p (buffers a.old.now a.new.now a.states.now a.picture.now a.rows.now) in let e : l.i ≡ events_in a.events.now = omega (arith, l.invariant.2, c.loop-i-test.false) in record { done = (l.invariant.0.is ∙ ap (λ (n : ℕ). ran_to a.events.now n w) e, l.invariant.0.turned ∙ ap (λ (n : ℕ). refused_in a.events.now n w) e); gives = l.invariant.0.gave ∙ ap (λ (n : ℕ). answers_to a.events.now n w a.answers.now) e; }
+returns c = let l = c.loop-i in let a = c.args in let w = world a.p (buffers a.old.now a.new.now a.states.now a.picture.now a.rows.now) in let e : l.i ≡ events_in a.events.now = omega (arith, l.invariant.2, c.loop-i-test.false) in record { done = (l.invariant.0.is ∙ ap (λ (n : ℕ). ran_to a.events.now n w) e, l.invariant.0.turned ∙ ap (λ (n : ℕ). refused_in a.events.now n w) e); gives = l.invariant.0.gave ∙ ap (λ (n : ℕ). answers_to a.events.now n w a.answers.now) e }

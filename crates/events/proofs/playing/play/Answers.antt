@@ -30,13 +30,16 @@ pub returns-then-none : goal.returns-then-none
 returns-then-none c =
     let a = c.args in
     let b : Buffers = buffers a.old.now a.new.now a.states.now a.picture.now a.rows.now in
-    let h = told c.none.ensures c.power_on-made.ensures.1 c.if-none.true in record { makes = (
+    let h = told c.none.ensures c.power_on-made.ensures.1 c.if-none.true in record {
+      makes = (
         making_yes a.config a.events.now b h _ c.power_on-made.ensures.0 _ c.run-ran.ensures.done.0,
         c.power_on-made.ensures.1,
-      ); answers_after = answers_yes a.config a.events.now b h _ c.power_on-made.ensures.0 a.answers.now _ c.run-ran.ensures.gives; }
+      );
+      answers_after = answers_yes a.config a.events.now b h _ c.power_on-made.ensures.0 a.answers.now _ c.run-ran.ensures.gives;
+    }
 
 pub returns : goal.returns
 returns c =
     let a = c.args in
     let b : Buffers = buffers a.old.now a.new.now a.states.now a.picture.now a.rows.now in
-    let h = told c.none.ensures c.power_on-made.ensures.1 c.if-none.false in record { makes = (making_no a.config a.events.now b h _ c.power_on-made.ensures.0, c.power_on-made.ensures.1); answers_after = answers_no a.config a.events.now b h a.answers.now; }
+    let h = told c.none.ensures c.power_on-made.ensures.1 c.if-none.false in record { makes = (making_no a.config a.events.now b h _ c.power_on-made.ensures.0, c.power_on-made.ensures.1); answers_after = answers_no a.config a.events.now b h a.answers.now }
