@@ -1,7 +1,6 @@
 -- `jollanqe::batch` is safe and ends: what is lent keeps its lengths, and the measure is the turns that are left.
 use mathlib.Core.Path.{◌≡◌}
 use lib.ListN.{length}
-use borrow.Author.Rules.{rules}
 use Rattle.jollanqe.proofs.batch.Given as goal
 
 abbrev pub invariant-loop-turns : goal.invariant-loop-turns

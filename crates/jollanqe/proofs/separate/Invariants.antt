@@ -1,8 +1,7 @@
 -- `jollanqe::separate` is safe and ends: the line keeps its length, and the measure is what is left of it.
-use Prim.Native.Nat.{◌≤◌, ◌-◌}
+use Prim.Native.Nat.{◌-◌}
 use mathlib.Core.Path.{◌≡◌}
 use lib.ListN.{length}
-use borrow.Author.Rules.{rules}
 use Rattle.jollanqe.proofs.separate.Given as goal
 
 abbrev pub invariant-loop-i : goal.invariant-loop-i

@@ -1,6 +1,5 @@
 -- `jollanqe::pictures::file_name` meets its contract: the folder, and then the file in it.
 use Rattle.text.proofs.Filling.{puts_then}
-use borrow.Author.Rules.{rules}
 use Rattle.jollanqe.proofs.pictures.file_name.Goals as goal
 
 pub returns : goal.returns

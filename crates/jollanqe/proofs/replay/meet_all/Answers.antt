@@ -1,10 +1,7 @@
 -- `jollanqe::replay::meet_all` is safe and ends. The invariant: no lent buffer has changed its length. The measure is the events left.
 use mathlib.Core.Path.{◌∙◌}
-use Prim.Native.Nat.{◌-◌}
 use native.Mathlib.Omega.{arith}
-use Rattle.controller.specs.World.{buffers}
-use Rattle.events.proofs.Going.{SameLengths, lengths_first, lengths_more}
-use borrow.Author.Rules.{rules}
+use Rattle.events.proofs.Going.{lengths_first, lengths_more}
 use Rattle.jollanqe.proofs.replay.meet_all.Goals as goal
 
 pub loop-i-init : goal.loop-i-init

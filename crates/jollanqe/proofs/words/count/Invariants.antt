@@ -1,8 +1,5 @@
 -- `jollanqe::words::count` is safe and ends: the measure is the words up to eight.
-use Prim.Native.Nat.{◌≤◌, ◌-◌}
-use mathlib.Core.Path.{◌≡◌}
-use lib.ListN.{length}
-use borrow.Author.Rules.{rules}
+use Prim.Native.Nat.{◌-◌}
 use Rattle.jollanqe.proofs.words.count.Given as goal
 
 abbrev pub invariant-loop-k : goal.invariant-loop-k

@@ -1,8 +1,6 @@
 -- `jollanqe::words::end` is safe and ends: the measure is what is left of the line.
-use Prim.Native.Nat.{◌≤◌, ◌-◌}
-use mathlib.Core.Path.{◌≡◌}
+use Prim.Native.Nat.{◌-◌}
 use lib.ListN.{length}
-use borrow.Author.Rules.{rules}
 use Rattle.jollanqe.proofs.words.end.Given as goal
 
 abbrev pub invariant-loop-i : goal.invariant-loop-i

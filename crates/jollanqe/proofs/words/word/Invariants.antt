@@ -1,8 +1,4 @@
 -- `jollanqe::words::word` is safe and ends: the measure is the words that are left.
-use Prim.Native.Nat.{◌≤◌, ◌-◌}
-use mathlib.Core.Path.{◌≡◌}
-use lib.ListN.{length}
-use borrow.Author.Rules.{rules}
 use Rattle.jollanqe.proofs.words.word.Given as goal
 
 abbrev pub invariant-loop-left : goal.invariant-loop-left
