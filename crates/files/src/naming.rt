@@ -1,4 +1,6 @@
 // A name as a path, and what fails, said on standard error by name.
+ghost use Rattle.std.specs.Prelude.{◌≡◌, IsUtf8, MatchResult};
+
 use std::fmt::Write;
 use std::io::{Error, ErrorKind};
 use std::str::from_utf8;
@@ -22,8 +24,11 @@ impl fmt::Display for Shown<'_> {
     }
 }
 
-// A path is text: no file has another name.
-pub fn path(name: &[u8]) -> io::Result<&str> {
+// A path is text: the name, if it is UTF-8. No file has another name.
+pub fn path(name: &[u8]) -> io::Result<&str>
+    ensures { MatchResult result (λ path. (path.now ≡ name.now) × IsUtf8 name.now)
+        (λ error. ¬ (IsUtf8 name.now)) }
+{
     match from_utf8(name) {
         Ok(text) => Ok(text),
         Err(_) => Err(Error::new(ErrorKind::InvalidFilename, "the name is not UTF-8")),

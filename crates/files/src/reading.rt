@@ -1,5 +1,5 @@
 // Files by name, and lines of standard input. What fails is said on standard error by name.
-ghost use Rattle.std.specs.Prelude.{◌≡◌, ℕ, ◌≤◌, IfOk};
+ghost use Rattle.std.specs.Prelude.{◌≡◌, ℕ, ◌≤◌, IfOk, IsUtf8};
 ghost use Rattle.files.specs.Reading as rule;
 
 use crate::naming::{path, tell};
@@ -166,7 +166,9 @@ pub fn is_input(name: &[u8]) -> bool
 }
 
 // The file of that name.
-pub fn open_read<R: Files>(rt: &R, name: &[u8]) -> io::Result<R::File> {
+pub fn open_read<R: Files>(rt: &R, name: &[u8]) -> io::Result<R::File>
+    ensures { IfOk result (λ file. IsUtf8 name.now) }
+{
     let path = path(name)?;
     fs::open(rt, path)
 }

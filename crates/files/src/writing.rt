@@ -1,5 +1,5 @@
 // Where a job writes: the file of that name, or standard output where the name is empty.
-ghost use Rattle.std.specs.Prelude.{◌≡◌, is_ok};
+ghost use Rattle.std.specs.Prelude.{◌≡◌, IfOk, IsUtf8, is_ok};
 ghost use Rattle.files.specs.Writing.{Opens};
 
 use crate::naming::{path, tell};
@@ -9,7 +9,9 @@ use std::rt::Files;
 use std::{fs, io};
 
 // The file of that name, empty: one that is there is emptied.
-pub fn create<R: Files>(rt: &R, name: &[u8]) -> io::Result<R::File> {
+pub fn create<R: Files>(rt: &R, name: &[u8]) -> io::Result<R::File>
+    ensures { IfOk result (λ file. IsUtf8 name.now) }
+{
     let path = path(name)?;
     fs::create(rt, path)
 }

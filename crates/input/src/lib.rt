@@ -2,7 +2,7 @@
 #![tactic(auto)]
 
 ghost use Rattle.std.specs.Prelude.{◌≡◌, take};
-ghost use Rattle.input.specs.Within.{Within};
+ghost use Rattle.input.specs.Within.{IsPrefixLen, Within};
 
 use std::io::{Error, Read};
 
@@ -30,6 +30,22 @@ pub fn read_all<R: Read>(input: &mut R, buffer: &mut [u8]) -> Input
         held += n;
     }
     Input::Bytes(held)
+}
+
+// How many bytes stand at the start of the buffer once it is full or the input has ended: a read that
+// fails ends it too.
+pub fn read_full<R: Read>(input: &mut R, buffer: &mut [u8]) -> usize
+    ensures { IsPrefixLen result buffer.new }
+{
+    let mut held: usize = 0;
+    while held < buffer.len() {
+        let n = input.read(&mut buffer[held..]).unwrap_or(0);
+        if n == 0 {
+            return held;
+        }
+        held += n;
+    }
+    held
 }
 
 // The first n bytes, or all where there are not so many.

@@ -13,27 +13,13 @@ ghost use Rattle.std.specs.Prelude.{◌≤◌, length};
 use answers::Tally;
 use base::{TOP, least, saturating_add};
 use capture::little;
+use input::read_full;
 use showing::INPUT;
 use std::io::Read;
 use trace::retrace;
 
 // The bytes of a length.
 const LENGTH: usize = 4;
-
-// Reads until the buffer is full or the input ends: a read that fails ends it too.
-pub(crate) fn read_full<I: Read>(input: &mut I, buffer: &mut [u8]) -> usize
-    ensures { result ≤ length buffer.new }
-{
-    let mut held: usize = 0;
-    while held < buffer.len() {
-        let n = input.read(&mut buffer[held..]).unwrap_or(0);
-        if n == 0 {
-            return held;
-        }
-        held += n;
-    }
-    held
-}
 
 // The trace whose capture is the next bytes of the input, as many as there is space for, or those
 // that are left.

@@ -3,13 +3,14 @@
 ghost use Rattle.std.specs.Prelude.{◌≤◌};
 
 use crate::answers::{ANSWERS, Answers, Tally, Which, compare, held, ours, theirs};
-use crate::{digest, read_full};
+use crate::digest;
 use base::least;
 use capture::{Capture, EVENT_BYTES, MOST_PIXELS, read};
 use config::Uc8253Config;
 use controller::Uc8253;
 use diagnostic_log::ROWS;
 use events::{Event, event_at, step};
+use input::read_full;
 use ram::PLANE;
 use std::io::Read;
 use uc8253::power_on;

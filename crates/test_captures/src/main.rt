@@ -6,6 +6,7 @@ ghost use Rattle.std.specs.Prelude.{◌≤◌, length};
 
 use base::{TOP, least};
 use capture::little;
+use input::read_full;
 use showing::{INPUT, show_panel};
 use std::io::Read;
 
@@ -14,21 +15,6 @@ const LENGTH: usize = 4;
 
 // The bytes that are passed over at a time.
 const CHUNK: usize = 4_096;
-
-// Reads until the buffer is full or the input ends: a read that fails ends it too.
-fn read_full<I: Read>(input: &mut I, buffer: &mut [u8]) -> usize
-    ensures { result ≤ length buffer.new }
-{
-    let mut held: usize = 0;
-    while held < buffer.len() {
-        let n = input.read(&mut buffer[held..]).unwrap_or(0);
-        if n == 0 {
-            return held;
-        }
-        held += n;
-    }
-    held
-}
 
 fn run<R: Print + Eprint>(rt: &R, file: &[u8]) {
     let mut old = [0u8; 60000];

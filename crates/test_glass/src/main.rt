@@ -9,23 +9,9 @@ mod table;
 
 ghost use Rattle.std.specs.Prelude.{◌≤◌, length};
 
-use std::io::{Input, Read};
+use input::read_full;
+use std::io::Input;
 use table::Table;
-
-// Reads until the buffer is full or the input ends: a read that fails ends it too.
-fn read_full<I: Read>(input: &mut I, buffer: &mut [u8]) -> usize
-    ensures { result ≤ length buffer.new }
-{
-    let mut held: usize = 0;
-    while held < buffer.len() {
-        let n = input.read(&mut buffer[held..]).unwrap_or(0);
-        if n == 0 {
-            return held;
-        }
-        held += n;
-    }
-    held
-}
 
 fn replay<R: Print>(rt: &R, s: &[u8]) {
     let levels = table::compared(rt, Table::Level, s, 0);
