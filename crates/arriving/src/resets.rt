@@ -6,123 +6,69 @@ ghost use Rattle.controller.specs.Counting.{own};
 ghost use Rattle.controller.specs.Tell.{silent};
 
 use crate::ends::publish;
-use controller::{Current, Mode, Note, Notes, Operation, Power, Stage, Uc8253, Work};
+use controller::{Current, Notes, Operation, Power, Uc8253, Work};
 use diagnostic::DiagnosticKind;
 use registers::{Luts, Registers};
-use rules::{close_note, start};
+use rules::{close_note, rested, start, with_current};
 
 // A refresh that is cut publishes its picture, dated by the clock.
+#[tactic(auto, unfolding(controller::specs::Refresh::cut_refresh))]
 fn cut(p: Uc8253) -> Uc8253
     ensures { result ≡ rule.cut_by p.operation.work p }
 {
-    let operation = p.operation;
-    let work = operation.work;
-    match work {
-        Work::Nothing => p,
-        Work::PowerOn => p,
-        Work::PowerOff => p,
-        Work::DeepSleep => p,
-        Work::SoftReset => p,
-        Work::HardwareReset => p,
-        Work::Refresh(refresh) => {
-            let kind = refresh.kind;
-            publish(p, kind, true, p.now)
-        }
+    match p.operation.work {
+        Work::Refresh(refresh) => publish(p, refresh.kind, true, p.now),
+        _ => p,
     }
 }
 
 // Registers restored, power cut, nothing under way; RAM, data flag and VCOM's rule stay.
+#[tactic(auto, unfolding(controller::specs::Reset::cleared))]
 fn clear(p: Uc8253) -> Uc8253
     ensures { result ≡ rule.cleared p }
 {
-    let config = p.config;
-    let variant = config.variant;
-    let mode = Mode {
-        power: Power::InReset,
-        powered: false,
-        data_flag: p.mode.data_flag,
-        vcom_by_frame: p.mode.vcom_by_frame,
-    };
-    let stage = Stage {
-        current: Current::Idle,
-    };
-    let operation = Operation {
-        work: Work::Nothing,
-        started: 0,
-        until: 0,
-    };
     let mut q = p;
-    q.regs = Registers::reset(variant);
+    q.regs = Registers::reset(p.config.variant);
     q.luts = Luts::reset();
-    q.mode = mode;
-    q.stage = stage;
-    q.operation = operation;
-    q
+    q.mode.power = Power::InReset;
+    q.mode.powered = false;
+    with_current(rested(q), Current::Idle)
 }
 
 // Out of reset, `RST_N` goes low.
 fn fall(p: Uc8253) -> Uc8253
     ensures { result ≡ steps.fallen p }
 {
-    let q = cut(p);
-    clear(q)
+    clear(cut(p))
 }
 
 // Release starts the hardware reset.
 fn rise(p: Uc8253) -> Uc8253
     ensures { result ≡ steps.risen p }
 {
-    let mode = Mode {
-        power: Power::Running,
-        powered: p.mode.powered,
-        data_flag: p.mode.data_flag,
-        vcom_by_frame: p.mode.vcom_by_frame,
-    };
     let mut q = p;
-    q.mode = mode;
+    q.mode.power = Power::Running;
     start(q, Work::HardwareReset, p.config.timing.hardware_reset)
 }
 
 // `RST_N` went low or was released.
+#[tactic(auto, unfolding(controller::specs::Reset::reset_edge))]
 pub fn reset_edge(p: Uc8253, asserted: bool) -> Uc8253
     ensures { result ≡ rule.reset_edge own asserted p }
 {
-    let mode = p.mode;
-    let power = mode.power;
-    match power {
-        Power::Running => {
-            if asserted {
-                return fall(p);
-            }
-            p
-        }
-        Power::Asleep => {
-            if asserted {
-                return fall(p);
-            }
-            p
-        }
-        Power::InReset => {
-            if asserted {
-                return p;
-            }
-            rise(p)
-        }
+    match (p.mode.power, asserted) {
+        (Power::Running | Power::Asleep, true) => fall(p),
+        (Power::InReset, false) => rise(p),
+        _ => p,
     }
 }
 
-fn cut_note(operation: Operation) -> Note
+fn cut_note(operation: Operation) -> Option<DiagnosticKind>
     ensures { result ≡ rule.cut_note operation.work }
 {
-    let work = operation.work;
-    match work {
-        Work::Nothing => Note::Quiet,
-        Work::PowerOn => Note::Quiet,
-        Work::PowerOff => Note::Quiet,
-        Work::DeepSleep => Note::Quiet,
-        Work::SoftReset => Note::Quiet,
-        Work::HardwareReset => Note::Quiet,
-        Work::Refresh(_) => Note::Told(DiagnosticKind::ResetDuringRefresh),
+    match operation.work {
+        Work::Refresh(_) => Some(DiagnosticKind::ResetDuringRefresh),
+        _ => None,
     }
 }
 
@@ -130,8 +76,8 @@ fn silence() -> Notes
     ensures { result ≡ silent }
 {
     Notes {
-        first: Note::Quiet,
-        second: Note::Quiet,
+        first: None,
+        second: None,
     }
 }
 
@@ -139,11 +85,9 @@ fn silence() -> Notes
 fn fall_notes(p: Uc8253) -> Notes
     ensures { result ≡ steps.fallen_notes p }
 {
-    let operation = p.operation;
-    let stage = p.stage;
     Notes {
-        first: cut_note(operation),
-        second: close_note(stage),
+        first: cut_note(p.operation),
+        second: close_note(p.stage),
     }
 }
 
@@ -151,14 +95,8 @@ fn fall_notes(p: Uc8253) -> Notes
 pub fn edge_notes(p: Uc8253, asserted: bool) -> Notes
     ensures { result ≡ rule.edge_notes asserted p }
 {
-    if !asserted {
-        return silence();
-    }
-    let mode = p.mode;
-    let power = mode.power;
-    match power {
-        Power::Running => fall_notes(p),
-        Power::Asleep => fall_notes(p),
-        Power::InReset => silence(),
+    match (p.mode.power, asserted) {
+        (Power::Running | Power::Asleep, true) => fall_notes(p),
+        _ => silence(),
     }
 }

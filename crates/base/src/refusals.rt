@@ -1,11 +1,9 @@
 // Why a call, a making or a capture is turned back, by the words of document 01's table.
-ghost use Rattle.std.specs.Prelude.{◌≡◌, eqb};
-ghost use Rattle.base.specs.RefusalNumbers.{refusal_number};
+ghost use Rattle.std.specs.Prelude.{◌≡◌};
+ghost use Rattle.base.specs.RefusalNumbers.{refusal_number, number_of};
 
 #[derive(Clone, Copy)]
 pub enum Refusal {
-    // It is not turned back.
-    Nothing,
     EmptyPanel,
     OversizedPanel,
     Swing,
@@ -22,12 +20,11 @@ pub enum Refusal {
 }
 
 impl Refusal {
-    // Document 01's number, 0 for none.
+    // Document 01's number.
     pub fn number(self) -> u8
         ensures { result ≡ refusal_number self }
     {
         match self {
-            Refusal::Nothing => 0,
             Refusal::EmptyPanel => 1,
             Refusal::OversizedPanel => 2,
             Refusal::Swing => 3,
@@ -43,11 +40,14 @@ impl Refusal {
             Refusal::ClockRate => 13,
         }
     }
+}
 
-    // Nothing was turned back.
-    pub fn none(self) -> bool
-        ensures { result ≡ eqb (refusal_number self) 0 }
-    {
-        self.number() == 0
+// The number of what turned a call back, 0 where nothing did.
+pub fn number_of(refused: Option<Refusal>) -> u8
+    ensures { result ≡ number_of refused }
+{
+    match refused {
+        Some(refusal) => refusal.number(),
+        None => 0,
     }
 }

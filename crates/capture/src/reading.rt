@@ -10,7 +10,7 @@ use config::Uc8253Config;
 // never past the file's end.
 #[derive(Clone, Copy)]
 pub struct Capture {
-    pub refused: Refusal,
+    pub refused: Option<Refusal>,
     pub config: Uc8253Config,
     pub end: usize,
 }
@@ -20,17 +20,16 @@ pub fn read(file: &[u8]) -> Capture
 {
     let t = trailer_of(file);
     let config = config_in(file, t);
-    let refused = refused(file, t, config);
-    if refused.none() {
-        return Capture {
-            refused,
+    match refused(file, t, config) {
+        Ok(()) => Capture {
+            refused: None,
             config,
             end: (EVENT * t.count) as usize,
-        };
-    }
-    Capture {
-        refused,
-        config,
-        end: 0,
+        },
+        Err(refusal) => Capture {
+            refused: Some(refusal),
+            config,
+            end: 0,
+        },
     }
 }

@@ -1,7 +1,6 @@
 // What turns a capture back: 8, 9, 1 to 4, 13, in this order; and 10, which is the program's alone.
 ghost use Rattle.std.specs.Prelude.{◌≡◌, ◌<◌};
-ghost use Rattle.base.specs.Pick.{between};
-ghost use Rattle.base.specs.RefusalNumbers.{refusal_number};
+ghost use Rattle.base.specs.RefusalNumbers.{number_in};
 ghost use Rattle.capture.specs.Layout.{config_in};
 ghost use Rattle.capture.specs.Refused as spec;
 ghost use Rattle.capture.specs.InnerTrailer.{Trails};
@@ -56,52 +55,29 @@ fn broken(file: &[u8], t: Trailer) -> bool
     !rated(file, t)
 }
 
-// One of VCOM's two rules.
-fn rule(value: u8) -> bool
-    ensures { result ≡ between 1 2 value }
-{
-    if value < 1 {
-        return false;
-    }
-    value <= 2
-}
-
 // Whether the kind is listed, and the value for it.
+#[tactic(auto, unfolding(crate::specs::Refused::listed))]
 pub fn listed(kind: u8, value: u8) -> bool
     ensures { result ≡ spec.listed kind value }
 {
-    if kind == COMMAND {
-        return true;
+    match kind {
+        COMMAND | DATA => true,
+        READ | ADVANCE => value == 0,
+        RESET => value <= 1,
+        VCOM_RULE => 1 <= value && value <= 2,
+        _ => false,
     }
-    if kind == DATA {
-        return true;
-    }
-    if kind == READ {
-        return value == 0;
-    }
-    if kind == RESET {
-        return value <= 1;
-    }
-    if kind == ADVANCE {
-        return value == 0;
-    }
-    if kind == VCOM_RULE {
-        return rule(value);
-    }
-    false
 }
 
 fn all_listed(file: &[u8], count: u64) -> bool
     requires { count < 4_294_967_296 }
     ensures { result ≡ spec.all_listed file.now count }
 {
-    let mut i: u64 = 0;
-    while i < count {
+    for i in 0..count {
         let at = (EVENT * i) as usize;
         if !listed(byte(file, at, KIND), byte(file, at, VALUE)) {
             return false;
         }
-        i += 1;
     }
     true
 }
@@ -128,16 +104,16 @@ fn bad_event(file: &[u8], t: Trailer) -> bool
 }
 
 // The first refusal that the file meets, whose trailer and configuration are these.
-pub(crate) fn refused(file: &[u8], t: Trailer, config: Uc8253Config) -> Refusal
+pub(crate) fn refused(file: &[u8], t: Trailer, config: Uc8253Config) -> Result<(), Refusal>
     requires trails { Trails file.now t }
     requires config_value { config ≡ config_in file.now }
-    ensures { refusal_number result ≡ spec.file_refused file.now }
+    ensures { number_in result ≡ spec.file_refused file.now }
 {
     if broken(file, t) {
-        return Refusal::BrokenCapture;
+        return Err(Refusal::BrokenCapture);
     }
     if bad_event(file, t) {
-        return Refusal::BadEvent;
+        return Err(Refusal::BadEvent);
     }
     config.validate()
 }

@@ -24,9 +24,7 @@ pub(crate) fn number(bytes: &[u8], at: usize, n: usize) -> u64
     ensures { (result ≡ spec.little bytes.now at n) × (result < 256 ^ n) }
 {
     let mut value: u64 = 0;
-    let mut k = n;
-    while 0 < k {
-        k -= 1;
+    for k in (0..n).rev() {
         value = byte(bytes, at, k) as u64 + 256 * value;
     }
     value

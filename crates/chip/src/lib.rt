@@ -9,17 +9,18 @@ ghost use Rattle.controller.specs.Counting.{own};
 
 use arriving::{arrive, edge_notes, reset_edge};
 use command_bytes::{command_byte, command_note};
-use controller::{Note, Notes, Uc8253};
+use controller::{Notes, Uc8253};
 use data_bytes::{data_byte, data_note, read_byte, read_note};
+use diagnostic::DiagnosticKind;
 use rules::{close_note, logged};
 
 // One diagnostic, or none.
-fn alone(note: Note) -> Notes
+fn alone(note: Option<DiagnosticKind>) -> Notes
     ensures { result ≡ steps.only note }
 {
     Notes {
         first: note,
-        second: Note::Quiet,
+        second: None,
     }
 }
 
@@ -27,9 +28,8 @@ fn alone(note: Note) -> Notes
 fn command_notes(here: Uc8253, command: u8) -> Notes
     ensures { result ≡ steps.command_notes command here }
 {
-    let stage = here.stage;
     Notes {
-        first: close_note(stage),
+        first: close_note(here.stage),
         second: command_note(here, command),
     }
 }
@@ -63,6 +63,7 @@ pub fn told_reset(p: Uc8253, at: u64, asserted: bool) -> Notes
 }
 
 // The record after a command byte.
+#[tactic(auto, unfolding(controller::specs::Ask::record_after))]
 pub fn after_command(p: Uc8253, at: u64, command: u8) -> Uc8253
     ensures { result ≡ ask.record_after own (ask.command at command) p }
 {
@@ -72,6 +73,7 @@ pub fn after_command(p: Uc8253, at: u64, command: u8) -> Uc8253
 }
 
 // The record after a data byte.
+#[tactic(auto, unfolding(controller::specs::Ask::record_after))]
 pub fn after_data(p: Uc8253, at: u64, byte: u8) -> Uc8253
     ensures { result ≡ ask.record_after own (ask.datum at byte) p }
 {
@@ -81,6 +83,7 @@ pub fn after_data(p: Uc8253, at: u64, byte: u8) -> Uc8253
 }
 
 // The record after a read.
+#[tactic(auto, unfolding(controller::specs::Ask::record_after))]
 pub fn after_read(p: Uc8253, at: u64) -> Uc8253
     ensures { result ≡ ask.record_after own (ask.reading at) p }
 {
@@ -90,6 +93,7 @@ pub fn after_read(p: Uc8253, at: u64) -> Uc8253
 }
 
 // The record after an edge of the reset line.
+#[tactic(auto, unfolding(controller::specs::Ask::record_after))]
 pub fn after_reset(p: Uc8253, at: u64, asserted: bool) -> Uc8253
     ensures { result ≡ ask.record_after own (ask.reset at asserted) p }
 {
@@ -99,6 +103,7 @@ pub fn after_reset(p: Uc8253, at: u64, asserted: bool) -> Uc8253
 }
 
 // The record after an advance.
+#[tactic(auto, unfolding(controller::specs::Ask::record_after))]
 pub fn after_advance(p: Uc8253, at: u64) -> Uc8253
     ensures { result ≡ ask.record_after own (ask.advance at) p }
 {
@@ -106,6 +111,7 @@ pub fn after_advance(p: Uc8253, at: u64) -> Uc8253
 }
 
 // The record after event kind 6.
+#[tactic(auto, unfolding(controller::specs::Ask::record_after))]
 pub fn after_rule(p: Uc8253, at: u64, by_frame: bool) -> Uc8253
     ensures { result ≡ ask.record_after own (ask.vcom_rule at by_frame) p }
 {

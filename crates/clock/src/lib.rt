@@ -5,19 +5,15 @@
 ghost use Rattle.std.specs.Prelude.{◌≡◌};
 ghost use Rattle.clock.specs.Clock.{cycles_of, nanos_of, bad_rate};
 
-use base::{greatest, saturating_add, saturating_mul};
-
 // The nanoseconds of a second, and the most Hz.
 pub const BILLION: u64 = 1_000_000_000;
 
 // The rate is out of range: refusal 13.
+#[tactic(auto, unfolding(crate::specs::Clock::bad_rate))]
 pub fn rate_refused(rate: u64) -> bool
     ensures { result ≡ bad_rate rate }
 {
-    if rate < 1 {
-        return true;
-    }
-    if rate <= BILLION { false } else { true }
+    rate < 1 || BILLION < rate
 }
 
 // A duration in cycles, rounded up.
@@ -27,7 +23,7 @@ pub fn cycles(rate: u64, ns: u64) -> u64
     if rate >= BILLION {
         return ns;
     }
-    let near = greatest(1, rate);
+    let near = rate.max(1);
     ns / BILLION * near + (ns % BILLION * near + (BILLION - 1)) / BILLION
 }
 
@@ -38,7 +34,7 @@ pub fn nanoseconds(rate: u64, cycles: u64) -> u64
     if rate >= BILLION {
         return cycles;
     }
-    let near = greatest(1, rate);
-    let seconds = saturating_mul(cycles / near, BILLION);
-    saturating_add(seconds, cycles % near * BILLION / near)
+    let near = rate.max(1);
+    let seconds = (cycles / near).saturating_mul(BILLION);
+    seconds.saturating_add(cycles % near * BILLION / near)
 }

@@ -6,6 +6,7 @@ use crate::*;
 use config::{LUT_MAX_BYTES, Variant};
 
 // What the model does with a command byte.
+#[tactic(auto, unfolding(crate::specs::Kinds::kind_of))]
 pub fn kind(command: u8, variant: Variant) -> Kind
     ensures { result ≡ kind_of command variant }
 {
@@ -49,13 +50,7 @@ pub fn kind(command: u8, variant: Variant) -> Kind
 pub fn is_read_command(command: u8, variant: Variant) -> bool
     ensures { result ≡ is_read (kind_of command variant) }
 {
-    let k = kind(command, variant);
-    match k {
-        Kind::Write(_) => false,
-        Kind::Read => true,
-        Kind::Unsupported(_) => false,
-        Kind::Unknown => false,
-    }
+    matches!(kind(command, variant), Kind::Read)
 }
 
 // The bytes that a command takes: none under a read command.
@@ -63,10 +58,8 @@ fn params(k: Kind) -> Params
     ensures { result ≡ params_of k }
 {
     match k {
-        Kind::Write(p) => p,
-        Kind::Read => Params::Exactly(0),
-        Kind::Unsupported(p) => p,
-        Kind::Unknown => Params::Exactly(0),
+        Kind::Write(p) | Kind::Unsupported(p) => p,
+        Kind::Read | Kind::Unknown => Params::Exactly(0),
     }
 }
 
@@ -74,10 +67,8 @@ fn params(k: Kind) -> Params
 pub fn least_count(k: Kind) -> u16
     ensures { result ≡ least_count k }
 {
-    let p = params(k);
-    match p {
-        Params::Exactly(n) => n,
-        Params::Between(least, _) => least,
+    match params(k) {
+        Params::Exactly(n) | Params::Between(n, _) => n,
         Params::Stream => 0,
     }
 }
@@ -86,10 +77,8 @@ pub fn least_count(k: Kind) -> u16
 pub fn takes(k: Kind, index: u16) -> bool
     ensures { result ≡ takes_byte k index }
 {
-    let p = params(k);
-    match p {
-        Params::Exactly(n) => index < n,
-        Params::Between(_, most) => index < most,
+    match params(k) {
+        Params::Exactly(n) | Params::Between(_, n) => index < n,
         Params::Stream => true,
     }
 }

@@ -4,7 +4,7 @@
 
 ghost use Rattle.std.specs.Prelude.{◌≡◌};
 ghost use Rattle.config.specs.X3.{ds53, periods_to, x3_panel, x3_timing, x3, x3_uc8279d};
-ghost use Rattle.base.specs.RefusalNumbers.{refusal_number};
+ghost use Rattle.base.specs.RefusalNumbers.{number_in};
 ghost use Rattle.config.specs.Refusal.{empty_panel, oversized_panel, swing_refused, period_refused, rate_refused, some_zero, refusal};
 
 use base::Refusal;
@@ -182,17 +182,9 @@ impl Uc8253Config {
     pub fn xteink_x3_uc8279d() -> Uc8253Config
         ensures { result ≡ x3_uc8279d }
     {
-        let first = Uc8253Config::xteink_x3();
-        let panel = first.panel;
-        let optics = first.optics;
-        let timing = first.timing;
         Uc8253Config {
             variant: Variant::Uc8279d,
-            panel,
-            optics,
-            timing,
-            ambient_celsius: first.ambient_celsius,
-            vcom_by_frame: first.vcom_by_frame,
+            ..Uc8253Config::xteink_x3()
         }
     }
 
@@ -234,24 +226,24 @@ impl Uc8253Config {
     }
 
     // The first of refusals 1 to 4 and 13 that the configuration meets, if it meets one.
-    pub fn validate(self) -> Refusal
-        ensures { refusal_number result ≡ refusal self }
+    pub fn validate(self) -> Result<(), Refusal>
+        ensures { number_in result ≡ refusal self }
     {
         if self.empty_panel() {
-            return Refusal::EmptyPanel;
+            return Err(Refusal::EmptyPanel);
         }
         if self.oversized_panel() {
-            return Refusal::OversizedPanel;
+            return Err(Refusal::OversizedPanel);
         }
         if self.swing_refused() {
-            return Refusal::Swing;
+            return Err(Refusal::Swing);
         }
         if self.period_refused() {
-            return Refusal::FramePeriod;
+            return Err(Refusal::FramePeriod);
         }
         if self.clock_refused() {
-            return Refusal::ClockRate;
+            return Err(Refusal::ClockRate);
         }
-        Refusal::Nothing
+        Ok(())
     }
 }

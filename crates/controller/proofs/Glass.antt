@@ -1,5 +1,6 @@
 -- A refresh's start and its end leave a sound record sound: its period is not 0, its levels are at most 15,000; the states stay in
 -- 0 .. full swing. Each pixel's number is a table's, or 255.
+use Rattle.std.proofs.Common.{None, Some}
 use mathlib.Core.Path.{◌≡◌, refl, sym, subst, ◌∙◌}
 use mathlib.Core.Bool.{Bool, true, false, ◌&&◌, false≢true}
 use mathlib.Core.List.{List, [], ◌∷◌, ◌++◌}
@@ -35,8 +36,7 @@ use Rattle.pixels.proofs.DrawLaws.{drawn_length}
 use Rattle.controller.specs.declared.Uc8253.{Uc8253}
 use Rattle.controller.specs.declared.drives.Drive.{Drive}
 use Rattle.controller.specs.declared.drives.Drive.TheVariants as drive
-use Rattle.controller.specs.declared.notes.Note.{Note}
-use Rattle.controller.specs.declared.notes.Note.TheVariants.{Quiet, Told}
+use Rattle.controller.specs.Maybe.{Note}
 use Rattle.controller.specs.TurnedBack.{bad_levels}
 use Rattle.controller.specs.Refresh.{refresh_note, waveform_now, mapping_now, refreshing, refresh_started, refreshed_by, refreshed, all_frames}
 use Rattle.controller.specs.Glass.{numbers_now, walked, states_by, picture_by}
@@ -188,8 +188,8 @@ sound_refresh_started p s = record {
 }
 
 sound_refreshed_by : (n : Note) (p : Uc8253) → SoundChip p → SoundChip (refreshed_by own n p)
-sound_refreshed_by Quiet p s = sound_refresh_started p s
-sound_refreshed_by (Told d) p s = s
+sound_refreshed_by None p s = sound_refresh_started p s
+sound_refreshed_by (Some d) p s = s
 
 pub sound_refreshed : (p : Uc8253) → SoundChip p → SoundChip (refreshed own p)
 unfolding refreshed

@@ -1,5 +1,6 @@
 -- What every call's own part leaves of the record: its configuration, its clock, its log and VCOM's rule. Only event kind 6, which has no
 -- part here, changes the last.
+use Rattle.std.proofs.Common.{None, Some}
 use mathlib.Core.Path.{◌≡◌, refl, ◌∙◌}
 use mathlib.Core.Bool.{Bool, true, false}
 use mathlib.Core.List.{[], ◌∷◌}
@@ -20,8 +21,7 @@ use Rattle.controller.specs.declared.Active.{Active}
 use Rattle.controller.specs.declared.Current.{Current}
 use Rattle.controller.specs.declared.Current.TheVariants as current
 use Rattle.controller.specs.declared.Uc8253.{Uc8253}
-use Rattle.controller.specs.declared.notes.Note.{Note}
-use Rattle.controller.specs.declared.notes.Note.TheVariants.{Quiet, Told}
+use Rattle.controller.specs.Maybe.{Note}
 use Rattle.controller.specs.declared.uses.Use.{Use}
 use Rattle.controller.specs.declared.uses.Use.TheVariants as use-for
 use Rattle.controller.specs.Arrives.{timed, ended_by, ended, arrived}
@@ -81,8 +81,8 @@ kept_arrived t p = kept_ended (timed t p)
 -- ---- a command byte
 kept_refreshed_by : (n : Note) (p : Uc8253) → KeptAll p (refreshed_by own n p)
 unfolding refresh_started
-kept_refreshed_by (Told k) p = same refl refl refl refl refl
-kept_refreshed_by Quiet p = same refl refl refl refl refl
+kept_refreshed_by (Some k) p = same refl refl refl refl refl
+kept_refreshed_by None p = same refl refl refl refl refl
 
 kept_executed : (c : ℕ) (p : Uc8253) → KeptAll p (executed own c p)
 unfolding executed refreshed
@@ -108,8 +108,8 @@ kept_sorted_by (kind.Write n) c p = both_then (kept_begun c (kind.Write n) p) (k
 kept_sorted_by kind.Read c p = both_then (kept_begun c kind.Read p) (kept_executed c (begun c kind.Read p))
 
 kept_passed_by : (n : Note) (c : ℕ) (p : Uc8253) → KeptAll p (passed_by own n c p)
-kept_passed_by (Told k) c p = same refl refl refl refl refl
-kept_passed_by Quiet c p = kept_sorted_by (kind_of c p.config.variant) c p
+kept_passed_by (Some k) c p = same refl refl refl refl refl
+kept_passed_by None c p = kept_sorted_by (kind_of c p.config.variant) c p
 
 pub all_command : (c : ℕ) (p : Uc8253) → KeptAll p (command_byte own c p)
 unfolding command_byte

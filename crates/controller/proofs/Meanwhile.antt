@@ -16,7 +16,7 @@ use Rattle.controller.specs.declared.Stage.{Stage}
 use Rattle.controller.specs.declared.Work.{Work}
 use Rattle.controller.specs.declared.Work.TheVariants as work
 use Rattle.controller.specs.declared.Uc8253.{Uc8253}
-use Rattle.controller.specs.declared.notes.Note.{Note}
+use Rattle.controller.specs.Maybe.{Note}
 use Rattle.controller.specs.declared.uses.Use.{Use}
 use Rattle.controller.specs.Setters.{with_log}
 use Rattle.controller.specs.Tell.{log_noted, row_noted}

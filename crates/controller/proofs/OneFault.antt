@@ -1,6 +1,7 @@
 -- One fault, one row (2026-02): what is told of a table load, 20 to 24, from its command byte to its close, whatever data bytes, reads
 -- and advances come between. The invariant: after n bytes the command under way has counted them, and has told of an extra one just if n
 -- passes 60.
+use Rattle.std.proofs.Common.{None, Some}
 use mathlib.Core.Path.{◌≡◌, refl, sym, ap, ◌∙◌, subst}
 use mathlib.Core.Bool.{true}
 use mathlib.Core.List.{List, [], ◌∷◌}
@@ -28,8 +29,7 @@ use Rattle.controller.specs.declared.Power.TheVariants as power
 use Rattle.controller.specs.declared.Work.{Work}
 use Rattle.controller.specs.declared.Work.TheVariants as work
 use Rattle.controller.specs.declared.Uc8253.{Uc8253}
-use Rattle.controller.specs.declared.notes.Note.{Note}
-use Rattle.controller.specs.declared.notes.Note.TheVariants.{Quiet, Told}
+use Rattle.controller.specs.Maybe.{Note}
 use Rattle.controller.specs.declared.uses.Use.{Use}
 use Rattle.controller.specs.declared.uses.Use.TheVariants as use-for
 use Rattle.controller.specs.Setters.{with_log}
@@ -129,22 +129,22 @@ module _ (c : ℕ) (lo : 0x20 ≤ c) (hi : c ≤ 0x24) where
       rw (s.kind_is, le-ltb a.received 60 all, s.extra, lt-ltb 60 n h)
 
   -- the close
-  note_past : (n : ℕ) (a : Active) (x : Current) (r : Work) → Loads n a x r → 60 < n → closing_note a ≡ Quiet
+  note_past : (n : ℕ) (a : Active) (x : Current) (r : Work) → Loads n a x r → 60 < n → closing_note a ≡ None
   unfolding closing_note
   note_past n a x r s h =
       let some : 1 ≤ a.received = omega (arith, s.count) in
       rw (s.kind_is, le-ltb a.received 1 some, s.command_is, table, s.extra, lt-ltb 60 n h)
 
-  note_none : (a : Active) (x : Current) (r : Work) → Loads 0 a x r → closing_note a ≡ Told (MissingData c 1 0)
+  note_none : (a : Active) (x : Current) (r : Work) → Loads 0 a x r → closing_note a ≡ Some (MissingData c 1 0)
   unfolding closing_note
   note_none a x r s = rw (s.kind_is, s.count, s.command_is)
 
-  note_whole : (a : Active) (x : Current) (r : Work) → Loads 42 a x r → closing_note a ≡ Quiet
+  note_whole : (a : Active) (x : Current) (r : Work) → Loads 42 a x r → closing_note a ≡ None
   unfolding closing_note
   note_whole a x r s = rw (s.kind_is, s.count, s.command_is, table, s.extra)
 
   note_other : (n : ℕ) (a : Active) (x : Current) (r : Work) → Loads n a x r → 0 < n → n ≤ 60 → (n ≡ 42 → ⊥)
-      → closing_note a ≡ Told (LutLength c n)
+      → closing_note a ≡ Some (LutLength c n)
   unfolding closing_note
   note_other n a x r s some few other =
       let e : min n 65535 ≡ n = omega arith in
@@ -152,7 +152,7 @@ module _ (c : ℕ) (lo : 0x20 ≤ c) (hi : c ≤ 0x24) where
 
   -- ---- what each call leaves, where nothing runs
   abbrev waited : ℕ → Diary → Diary
-  waited t d = leaving Quiet (max d.chip.now t) (timed t d.chip) d
+  waited t d = leaving None (max d.chip.now t) (timed t d.chip) d
 
   module _ (n : ℕ) (a : Active) (d : Diary) (s : LoadsIn n a d) (t : ℕ) where
     -- a data byte
@@ -166,7 +166,7 @@ module _ (c : ℕ) (lo : 0x20 ≤ c) (hi : c ≤ 0x24) where
     -- an advance, and so a read
     wait : came_one (ask.advance t) d ≡ waited t d
     unfolding record_after rows_after
-    wait = ap (λ (q : Uc8253). leaving Quiet (max d.chip.now t) q d) (in_time t d.chip s.idle)
+    wait = ap (λ (q : Uc8253). leaving None (max d.chip.now t) q d) (in_time t d.chip s.idle)
 
     look : came_one (ask.reading t) d ≡ waited t d
     look = read_is t d a s.is (params.Between 1 60) s.kind_is ∙ wait
@@ -178,10 +178,10 @@ module _ (c : ℕ) (lo : 0x20 ≤ c) (hi : c ≤ 0x24) where
   -- past the extra byte nothing more is told
   past : (xs : List Meanwhile) (n : ℕ) (a : Active) (d : Diary) → LoadsIn n a d → 60 < n → (t : ℕ)
       → closes t (came_all xs d) ≡ diagnosed d
-  past [] n a d s h t = close_is t d a s.is Quiet (note_past n a _ _ s h)
+  past [] n a d s h t = close_is t d a s.is None (note_past n a _ _ s h)
   past (datum u b ∷ xs) n a d s h t =
       ap (λ (v : Diary). closes t (came_all xs v)) (put n a d s u use-for.Quiet b (use_past n b a _ _ s h))
-      ∙ past xs (suc n) (more_of a) (leaving Quiet (max d.chip.now u) (under (more_of a) (timed u d.chip)) d)
+      ∙ past xs (suc n) (more_of a) (leaving None (max d.chip.now u) (under (more_of a) (timed u d.chip)) d)
       (record {
         is = refl;
         command_is = s.command_is;
@@ -222,7 +222,7 @@ module _ (c : ℕ) (lo : 0x20 ≤ c) (hi : c ≤ 0x24) where
   unfolding faults
   extra_byte xs u b n a d s is60 t =
       let s60 : LoadsIn 60 a d = subst (λ m. LoadsIn m a d) is60 s in
-      let v : Diary = leaving (Told (ExtraData a.command)) (max d.chip.now u) (used_by own use-for.Extra a b (timed u d.chip)) d in
+      let v : Diary = leaving (Some (ExtraData a.command)) (max d.chip.now u) (used_by own use-for.Extra a b (timed u d.chip)) d in
       let long : 60 < 60 + (1 + bytes_in xs) = omega arith in
       ap (λ (x : Diary). closes t (came_all xs x)) (put n a d s u use-for.Extra b (use_extra b a _ _ s60))
       ∙ past xs 61 (extra_of (more_of a)) v
@@ -253,7 +253,7 @@ module _ (c : ℕ) (lo : 0x20 ≤ c) (hi : c ≤ 0x24) where
         | yes h ↦ extra_byte xs u b n a d s (omega arith) t
         | no h ↦
             let below : n < 60 = omega (arith, h) in
-            let v : Diary = leaving Quiet (max d.chip.now u) (under (more_of a) (register_byte a b (timed u d.chip))) d in
+            let v : Diary = leaving None (max d.chip.now u) (under (more_of a) (register_byte a b (timed u d.chip))) d in
             let on = within xs (suc n) (more_of a) v
             (record {
               is = refl;
@@ -279,11 +279,11 @@ module _ (c : ℕ) (lo : 0x20 ≤ c) (hi : c ≤ 0x24) where
   unfolding executed
   executes_nothing p = each_table (λ k. executed own k p ≡ p) refl refl refl refl refl c lo hi
 
-  tells_nothing : (p : Uc8253) → sort_note (kind.Write (params.Between 1 60)) c p ≡ Quiet
+  tells_nothing : (p : Uc8253) → sort_note (kind.Write (params.Between 1 60)) c p ≡ None
   tells_nothing p =
-      each_table (λ k. sort_note (kind.Write (params.Between 1 60)) k p ≡ Quiet) refl refl refl refl refl c lo hi
+      each_table (λ k. sort_note (kind.Write (params.Between 1 60)) k p ≡ None) refl refl refl refl refl c lo hi
 
-  free : barred_note power.Running work.Nothing c ≡ Quiet
+  free : barred_note power.Running work.Nothing c ≡ None
   unfolding barred_note
   free = refl
 

@@ -1,5 +1,6 @@
 -- Request 2026-05: at 1 GHz no conversion changes anything, so that a panel at that rate does what it did before there was a rate. Each
 -- call by the record's own clock is the call with identities in place of the two conversions.
+use Rattle.std.proofs.Common.{None, Some}
 use mathlib.Core.Path.{◌≡◌, refl, ap, ◌∙◌}
 use mathlib.Core.Bool.{Bool, true, false}
 use Prim.Native.Nat.{ℕ, ◌+◌, ◌-◌, ◌/◌, ◌≤◌, min, max}
@@ -28,8 +29,7 @@ use Rattle.controller.specs.declared.Current.TheVariants as current
 use Rattle.controller.specs.declared.Uc8253.{Uc8253}
 use Rattle.controller.specs.declared.drives.Drive.{Drive}
 use Rattle.controller.specs.declared.drives.Drive.TheVariants as drive
-use Rattle.controller.specs.declared.notes.Note.{Note}
-use Rattle.controller.specs.declared.notes.Note.TheVariants.{Quiet, Told}
+use Rattle.controller.specs.Maybe.{Note}
 use Rattle.controller.specs.declared.uses.Use.{Use}
 use Rattle.controller.specs.declared.uses.Use.TheVariants as use-for
 use Rattle.controller.specs.World.{World, Buffers, world}
@@ -75,8 +75,8 @@ started_same p e =
     (cycles_stay p (duration_of (waveform_now p)) e)
 
 refreshed_by_same : (n : Note) (p : Uc8253) → Gigahertz p → refreshed_by own n p ≡ refreshed_by same n p
-refreshed_by_same (Told k) p e = refl
-refreshed_by_same Quiet p e = started_same p e
+refreshed_by_same (Some k) p e = refl
+refreshed_by_same None p e = started_same p e
 
 refreshed_same : (p : Uc8253) → Gigahertz p → refreshed own p ≡ refreshed same p
 unfolding refreshed
@@ -100,8 +100,8 @@ sorted_by_same (kind.Write n) c p e = executed_same c (begun c (kind.Write n) p)
 sorted_by_same kind.Read c p e = executed_same c (begun c kind.Read p) e
 
 passed_by_same : (n : Note) (c : ℕ) (p : Uc8253) → Gigahertz p → passed_by own n c p ≡ passed_by same n c p
-passed_by_same (Told k) c p e = refl
-passed_by_same Quiet c p e = sorted_by_same (kind_of c p.config.variant) c p e
+passed_by_same (Some k) c p e = refl
+passed_by_same None c p e = sorted_by_same (kind_of c p.config.variant) c p e
 
 command_same : (c : ℕ) (p : Uc8253) → Gigahertz p → command_byte own c p ≡ command_byte same c p
 unfolding command_byte

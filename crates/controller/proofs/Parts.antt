@@ -1,5 +1,6 @@
 -- A sound record with one part changed is sound: the registers, the command under way, what runs, what is told; and what is lent, as
 -- long as it was and the states in range.
+use Rattle.std.proofs.Common.{None, Some}
 use mathlib.Core.Path.{◌≡◌, refl, sym, ap, ◌∙◌}
 use mathlib.Core.Bool.{true, false, true≢false, false≢true}
 use mathlib.Core.List.{List}
@@ -32,8 +33,7 @@ use Rattle.controller.specs.declared.Current.TheVariants as current
 use Rattle.controller.specs.declared.Stage.{Stage}
 use Rattle.controller.specs.declared.Operation.{Operation}
 use Rattle.controller.specs.declared.Uc8253.{Uc8253}
-use Rattle.controller.specs.declared.notes.Note.{Note}
-use Rattle.controller.specs.declared.notes.Note.TheVariants.{Quiet, Told}
+use Rattle.controller.specs.Maybe.{Note}
 use Rattle.controller.specs.declared.notes.Notes.{Notes}
 use Rattle.controller.specs.World.{World, Buffers}
 use Rattle.controller.specs.Setters.{record_of, with_regs, with_luts, with_mode, with_current, with_operation, with_image, with_log, with_now}
@@ -138,8 +138,8 @@ reported_within g h = elim (dec_le 1024 g.stored) [
 ]
 
 noted_within : (n : Note) (g : Log) → g.stored ≤ 1024 → (log_noted n g).stored ≤ 1024
-noted_within Quiet g h = h
-noted_within (Told k) g h = reported_within g h
+noted_within None g h = h
+noted_within (Some k) g h = reported_within g h
 
 pub sound_told : (n : Notes) (p : Uc8253) → SoundChip p → SoundChip (with_log (log_told n p.log) p)
 sound_told n p s =
@@ -147,8 +147,8 @@ sound_told n p s =
     (noted_within n.second (log_noted n.first p.log) (noted_within n.first p.log s.stored)) s
 
 noted_length : (n : Note) (now : ℕ) (g : Log) (rows : List ℕ) → length (row_noted n now g rows) ≡ length rows
-noted_length Quiet now g rows = refl
-noted_length (Told k) now g rows = rows_length g now k rows
+noted_length None now g rows = refl
+noted_length (Some k) now g rows = rows_length g now k rows
 
 pub told_length : (n : Notes) (now : ℕ) (g : Log) (rows : List ℕ) → length (rows_told n now g rows) ≡ length rows
 told_length n now g rows =

@@ -2,6 +2,7 @@
 -- planes, the operation and its noted waveform, unless it comes to the operation's end or asserts reset. The invariant: while one runs,
 -- and in reset, no data byte is taken, since an operation is started by a command without data, by the last byte of one, or by the
 -- reset's release; and in reset none runs.
+use Rattle.std.proofs.Common.{None, Some}
 use mathlib.Core.Path.{◌≡◌, refl, sym, ap, subst, ◌∙◌}
 use mathlib.Core.Bool.{Bool, true, false, ◌||◌, true≢false, false≢true}
 use mathlib.Core.List.{List, [], ◌∷◌}
@@ -35,8 +36,7 @@ use Rattle.controller.specs.declared.Active.{Active}
 use Rattle.controller.specs.declared.Current.{Current}
 use Rattle.controller.specs.declared.Current.TheVariants as current
 use Rattle.controller.specs.declared.Uc8253.{Uc8253}
-use Rattle.controller.specs.declared.notes.Note.{Note}
-use Rattle.controller.specs.declared.notes.Note.TheVariants.{Quiet, Told}
+use Rattle.controller.specs.Maybe.{Note}
 use Rattle.controller.specs.declared.uses.Use.{Use}
 use Rattle.controller.specs.declared.uses.Use.TheVariants as use-for
 use Rattle.controller.specs.Counting.{own}
@@ -184,9 +184,9 @@ neither : (a b : Bool) → (a || b) ≡ false → a ≡ false
 neither true b e = e
 neither false b e = refl
 
-noted_by : (P : Note → Type 0) (k8 k7 k6 : DiagnosticKind) (a b d e : Bool) → ((k : DiagnosticKind) → P (Told k))
-    → (a ≡ false → (d ≡ true → e ≡ true) → P Quiet)
-    → P (pick a (Told k8) (pick b (Told k7) (pick d (pick e Quiet (Told k6)) Quiet)))
+noted_by : (P : Note → Type 0) (k8 k7 k6 : DiagnosticKind) (a b d e : Bool) → ((k : DiagnosticKind) → P (Some k))
+    → (a ≡ false → (d ≡ true → e ≡ true) → P None)
+    → P (pick a (Some k8) (pick b (Some k7) (pick d (pick e None (Some k6)) None)))
 noted_by P k8 k7 k6 true b d e t q = t k8
 noted_by P k8 k7 k6 false true d e t q = t k7
 noted_by P k8 k7 k6 false false true true t q = q refl (λ z. refl)
@@ -218,8 +218,8 @@ spared_read p n v =
 refreshed_guarded : (n : Note) (p : Uc8253) → GuardedIn p → in_reset p.mode.power ≡ false → deaf p.stage.current ≡ true
     → GuardedIn (refreshed_by own n p)
 unfolding refresh_started
-refreshed_guarded (Told k) p g n d = g
-refreshed_guarded Quiet p g n d = awake_deaf n d g.once
+refreshed_guarded (Some k) p g n d = g
+refreshed_guarded None p g n d = awake_deaf n d g.once
 
 module _ (p : Uc8253) (n : in_reset p.mode.power ≡ false) (r : busy p.operation.work ≡ false) (v : Variant) where
   module _ (c : ℕ) (no4 : eqb c 0x04 ≡ false) (no2 : eqb c 0x02 ≡ false) (no12 : eqb c 0x12 ≡ false) where

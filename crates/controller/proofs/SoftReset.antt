@@ -1,5 +1,6 @@
 -- Document 01, "A data byte": after the soft reset by the first byte of 00 later bytes are ignored silently, and so is the command's end.
 -- The command that `soft_of` leaves under way has had its byte, and the bytes past it count as reported; no later byte changes that.
+use Rattle.std.proofs.Common.{None}
 use mathlib.Core.Path.{◌≡◌, refl, sym, ap, ◌∙◌, subst}
 use mathlib.Core.Bool.{Bool, true, false, false≢true}
 use mathlib.Core.List.{List, [], ◌∷◌}
@@ -22,8 +23,7 @@ use Rattle.controller.specs.declared.Current.TheVariants as current
 use Rattle.controller.specs.declared.Work.{Work}
 use Rattle.controller.specs.declared.Work.TheVariants as work
 use Rattle.controller.specs.declared.Uc8253.{Uc8253}
-use Rattle.controller.specs.declared.notes.Note.{Note}
-use Rattle.controller.specs.declared.notes.Note.TheVariants.{Quiet}
+use Rattle.controller.specs.Maybe.{Note}
 use Rattle.controller.specs.declared.uses.Use.{Use}
 use Rattle.controller.specs.declared.uses.Use.TheVariants as use-for
 use Rattle.controller.specs.World.{Buffers}
@@ -163,7 +163,7 @@ module _ (t : ℕ) (a : Active) (p : Uc8253) (is : p.stage.current ≡ current.A
       ap (λ (x : Current). taken_by mine x b area m) (here t diary a is)
       ∙ ap (λ (y : Bool). pick y (put_at area a.cursor b m) m) none
 
-  byte_lent : (u : Use) (b : ℕ) → purpose_of a b ≡ u → used_note u a b (arrived t p) ≡ Quiet → for_old u ≡ false → for_new u ≡ false
+  byte_lent : (u : Use) (b : ℕ) → purpose_of a b ≡ u → used_note u a b (arrived t p) ≡ None → for_old u ≡ false → for_new u ≡ false
       → lent_after own (ask.datum t b) p l ≡ lent_after own (ask.advance t) p l
   unfolding lent_after old_after new_after rows_after
   byte_lent u b f tells old new =
@@ -200,7 +200,7 @@ spares (reading t) a p s l = read_lent t a p s.is l (params.Exactly 1) s.one ∙
 spares (advance t) a p s l = wait_lent t p s.runs l
 
 -- the end of the command
-ends : (a : Active) (c : Current) (x : Work) → Spent a c x → closing_note a ≡ Quiet
+ends : (a : Active) (c : Current) (x : Work) → Spent a c x → closing_note a ≡ None
 unfolding closing_note
 ends a c x s = rw (s.one, le-ltb a.received 1 s.had, s.zero)
 
@@ -214,7 +214,7 @@ module _ (u b : ℕ) (a : Active) (d : Diary) (is : d.chip.stage.current ≡ cur
   unfolding purpose_of doing kind_of
   softly = rw (k, first, zero, clear)
 
-  soft_is : softened ≡ leaving Quiet (max d.chip.now u) (under (soft_of (more_of a)) (soft_reset own (arrived u d.chip))) d
+  soft_is : softened ≡ leaving None (max d.chip.now u) (under (soft_of (more_of a)) (soft_reset own (arrived u d.chip))) d
   soft_is = byte_is u d a is use-for.Soft b softly
 
   spent : SpentIn (soft_of (more_of a)) softened.chip
@@ -242,4 +242,4 @@ module _ (u b : ℕ) (a : Active) (d : Diary) (is : d.chip.stage.current ≡ cur
   pub soft_closed : (xs : List Meanwhile) (t : ℕ) → closes t (came_all xs softened) ≡ diagnosed softened
   soft_closed xs t =
       let on = later xs _ softened spent in
-      close_is t (came_all xs softened) _ on.spent.is Quiet (ends _ _ _ on.spent) ∙ ap diagnosed on.left
+      close_is t (came_all xs softened) _ on.spent.is None (ends _ _ _ on.spent) ∙ ap diagnosed on.left

@@ -1,4 +1,5 @@
 -- Making gives a sound record and every call leaves it sound, and no call on it that is lent its buffers is turned back.
+use Rattle.std.proofs.Common.{None, Some}
 use mathlib.Core.Path.{◌≡◌, refl, sym, ap, subst, ◌∙◌}
 use mathlib.Core.Bool.{Bool, true, false, ◌&&◌, and-false}
 use mathlib.Core.List.{List, [], ◌∷◌}
@@ -39,8 +40,7 @@ use Rattle.controller.specs.declared.Active.{Active}
 use Rattle.controller.specs.declared.Current.{Current}
 use Rattle.controller.specs.declared.Current.TheVariants as current
 use Rattle.controller.specs.declared.Uc8253.{Uc8253}
-use Rattle.controller.specs.declared.notes.Note.{Note}
-use Rattle.controller.specs.declared.notes.Note.TheVariants.{Quiet, Told}
+use Rattle.controller.specs.Maybe.{Note}
 use Rattle.controller.specs.declared.uses.Use.{Use}
 use Rattle.controller.specs.declared.uses.Use.TheVariants as use-for
 use Rattle.controller.specs.World.{World, Buffers, world}
@@ -121,8 +121,8 @@ sound_sorted_by (kind.Write n) c p s = sound_executed c _ (sound_begun c (kind.W
 sound_sorted_by kind.Read c p s = sound_executed c _ (sound_begun c kind.Read p s)
 
 sound_passed_by : (n : Note) (c : ℕ) (p : Uc8253) → SoundChip p → SoundChip (passed_by own n c p)
-sound_passed_by (Told d) c p s = sound_ignoring p s
-sound_passed_by Quiet c p s = sound_sorted_by (kind_of c p.config.variant) c p s
+sound_passed_by (Some d) c p s = sound_ignoring p s
+sound_passed_by None c p s = sound_sorted_by (kind_of c p.config.variant) c p s
 
 sound_command : (c : ℕ) (p : Uc8253) → SoundChip p → SoundChip (command_byte own c p)
 unfolding command_byte

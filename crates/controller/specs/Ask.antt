@@ -1,16 +1,13 @@
 -- Demand 3's calls, made one after the other once a panel is made: the kind and arguments of each, without record and buffers; what it
 -- does, part by part: to the record, to planes and rows, to the glass; the number by which it is turned back, and what it answers. The
 -- contract of each public call is an equation with these.
-use Rattle.std.specs.Prelude.{Bool, true, false, List, ℕ, ◌<◌, max, eqb, length}
+use Rattle.std.specs.Prelude.{None, Option, Bool, true, false, List, ℕ, ◌<◌, max, eqb, length}
 use Rattle.base.specs.Pick.{pick}
-use Rattle.ram.specs.declared.Found.{Found}
 use Rattle.diagnostic_log.specs.Log.{log_emptied}
-use Rattle.controller.specs.declared.Due.{Due}
+use Rattle.controller.specs.Maybe.{Due, Read}
 use Rattle.controller.specs.declared.drives.Drive.{Drive}
 use Rattle.controller.specs.declared.drives.Drive.TheVariants as drive
-use Rattle.controller.specs.declared.notes.Note.TheVariants.{Quiet}
 use Rattle.controller.specs.declared.notes.Notes.{Notes}
-use Rattle.controller.specs.declared.reads.Read.{Read}
 use Rattle.controller.specs.declared.uses.Use.{Use}
 use Rattle.controller.specs.declared.Uc8253.{Uc8253}
 use Rattle.controller.specs.World.{World, Buffers, world}
@@ -94,8 +91,8 @@ chip_after clock (ask_picture top buffer) p = p
 -- what it tells; a command byte first what is told as the previous command closes, then its own
 abbrev pub told_by : Ask → Uc8253 → Notes
 told_by (command t c) p = notes (close_note (arrived t p).stage.current) (command_note c (arrived t p))
-told_by (datum t b) p = notes (data_note b (arrived t p)) Quiet
-told_by (reading t) p = notes (byte-read.read_note (arrived t p)) Quiet
+told_by (datum t b) p = notes (data_note b (arrived t p)) None
+told_by (reading t) p = notes (byte-read.read_note (arrived t p)) None
 told_by (advance t) p = silent
 told_by (reset t asserted) p = edge_notes asserted (arrived t p)
 told_by (vcom_rule t by_frame) p = silent
@@ -194,7 +191,7 @@ pub data Answer : Type 0 where
   count : ℕ → Answer
   low : Bool → Answer
   due : Due → Answer
-  bit : Found → Answer
+  bit : Option ℕ → Answer
   part : List ℕ → Answer
   wide : List ℕ → Answer
 

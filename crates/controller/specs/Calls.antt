@@ -1,5 +1,5 @@
 -- What the calls answer and by which number they are turned back, and making.
-use Rattle.std.specs.Prelude.{Bool, true, false, ◌&&◌, List, [], ℕ, ◌*◌, eqb, ltb, length, take, drop, replicate, ℤ, pos}
+use Rattle.std.specs.Prelude.{None, Option, Some, Bool, true, false, ◌&&◌, List, [], ℕ, ◌*◌, eqb, ltb, length, take, drop, replicate, ℤ, pos}
 use Rattle.base.specs.Pick.{pick}
 use Rattle.config.specs.declared.Uc8253Config.{Uc8253Config}
 use Rattle.config.specs.declared.Variant.TheVariants as variant
@@ -12,18 +12,13 @@ use Rattle.registers.specs.Luts.{reset_luts}
 use Rattle.registers.specs.Reset.{reset_of}
 use Rattle.waveform.specs.declared.Waveform.{Waveform}
 use Rattle.waveform.specs.Frames.{blank}
-use Rattle.ram.specs.declared.Found.{Found}
-use Rattle.ram.specs.declared.Found.TheVariants as found
 use Rattle.ram.specs.Found.{ram_bit}
 use Rattle.controller.specs.declared.Power.TheVariants as power
 use Rattle.controller.specs.declared.Work.{Work}
 use Rattle.controller.specs.declared.Work.TheVariants as work
 use Rattle.controller.specs.declared.Current.TheVariants as current
 use Rattle.controller.specs.declared.Uc8253.{Uc8253}
-use Rattle.controller.specs.declared.reads.Read.{Read}
-use Rattle.controller.specs.declared.reads.Read.TheVariants.{Nothing}
-use Rattle.controller.specs.declared.Due.{Due}
-use Rattle.controller.specs.declared.Due.TheVariants as due
+use Rattle.controller.specs.Maybe.{Due, Read}
 use Rattle.controller.specs.World.{World, Buffers, world}
 use Rattle.controller.specs.TurnedBack.{foreign_record, turned_back, making_refused, lent_refused}
 use Rattle.controller.specs.Arrives.{arrived, rest, busy_at}
@@ -31,7 +26,7 @@ use Rattle.controller.specs.Reading.{read_of}
 
 -- a refused read gives none
 unfoldable pub read_answer : ℕ → World → Read
-read_answer t w = pick (eqb (turned_back false t w) 0) (read_of (arrived t w.chip)) Nothing
+read_answer t w = pick (eqb (turned_back false t w) 0) (read_of (arrived t w.chip)) None
 
 -- taking the rows: 6, then 5 for the rows; stored becomes 0, and the call says how many rows there were
 unfoldable pub taking_refused : Uc8253 → List ℕ → ℕ
@@ -49,22 +44,22 @@ busy_answer p t = pick (foreign_record p) false (busy_at p.mode.power p.operatio
 
 -- the end of the operation under way, if one is
 abbrev pub due_of : Work → ℕ → Due
-due_of work.Nothing until = due.Never
-due_of work.PowerOn until = due.At until
-due_of work.PowerOff until = due.At until
-due_of work.DeepSleep until = due.At until
-due_of work.SoftReset until = due.At until
-due_of work.HardwareReset until = due.At until
-due_of (work.Refresh r) until = due.At until
+due_of work.Nothing until = None
+due_of work.PowerOn until = Some until
+due_of work.PowerOff until = Some until
+due_of work.DeepSleep until = Some until
+due_of work.SoftReset until = Some until
+due_of work.HardwareReset until = Some until
+due_of (work.Refresh r) until = Some until
 
 unfoldable pub deadline_answer : Uc8253 → Due
-deadline_answer p = pick (foreign_record p) due.Never (due_of p.operation.work p.operation.until)
+deadline_answer p = pick (foreign_record p) None (due_of p.operation.work p.operation.until)
 
 unfoldable pub bit_refused : Uc8253 → List ℕ → ℕ
 bit_refused p plane = lent_refused p (eqb (length plane) 60000)
 
-unfoldable pub bit_answer : Uc8253 → List ℕ → ℕ → ℕ → Found
-bit_answer p plane x y = pick (eqb (bit_refused p plane) 0) (ram_bit plane x y) found.Nothing
+unfoldable pub bit_answer : Uc8253 → List ℕ → ℕ → ℕ → Option ℕ
+bit_answer p plane x y = pick (eqb (bit_refused p plane) 0) (ram_bit plane x y) None
 
 unfoldable pub row_refused : Uc8253 → List ℕ → ℕ
 row_refused p picture = lent_refused p (eqb (length picture) (p.config.panel.sources * p.config.panel.gates))

@@ -1,5 +1,5 @@
 -- Document 01, "A command byte": what closes, what is dropped, and what a command does at once.
-use Rattle.std.specs.Prelude.{Bool, true, false, ◌||◌, [], ◌∷◌, ℕ, eqb, ltb, get_or}
+use Rattle.std.specs.Prelude.{None, Some, Bool, true, false, ◌||◌, [], ◌∷◌, ℕ, eqb, ltb, get_or}
 use Rattle.base.specs.Pick.{pick, one_of, between}
 use Rattle.registers.specs.declared.Registers.{Registers}
 use Rattle.registers.specs.Written.{written_of}
@@ -16,8 +16,7 @@ use Rattle.controller.specs.declared.Active.{Active}
 use Rattle.controller.specs.declared.Current.{Current}
 use Rattle.controller.specs.declared.Current.TheVariants as current
 use Rattle.controller.specs.declared.Uc8253.{Uc8253}
-use Rattle.controller.specs.declared.notes.Note.{Note}
-use Rattle.controller.specs.declared.notes.Note.TheVariants.{Quiet, Told}
+use Rattle.controller.specs.Maybe.{Note}
 use Rattle.controller.specs.Setters.{with_current, with_regs, with_data_flag}
 use Rattle.controller.specs.Arrives.{starting}
 use Rattle.controller.specs.Refresh.{refresh_note, refreshed}
@@ -27,15 +26,15 @@ use Rattle.controller.specs.Counting.{Counting}
 -- left out where kind 4 was stored or dropped for the same command
 unfoldable pub closing_note : Active → Note
 closing_note a =
-    pick (ltb a.received (least_count a.kind)) (Told (MissingData a.command (least_count a.kind) a.received))
+    pick (ltb a.received (least_count a.kind)) (Some (MissingData a.command (least_count a.kind) a.received))
     (pick (between 0x20 0x24 a.command)
-    (pick a.extra_reported Quiet (pick (eqb a.received 42) Quiet (Told (LutLength a.command a.received))))
-    Quiet)
+    (pick a.extra_reported None (pick (eqb a.received 42) None (Some (LutLength a.command a.received))))
+    None)
 
 -- the previous command closes: nothing but what is told of it
 abbrev pub close_note : Current → Note
-close_note current.Idle = Quiet
-close_note current.Ignoring = Quiet
+close_note current.Idle = None
+close_note current.Ignoring = None
 close_note (current.Active a) = closing_note a
 
 abbrev pub ignoring : Uc8253 → Uc8253
@@ -73,10 +72,10 @@ busy (work.Refresh r) = true
 -- in order: in reset or a soft or hardware reset running, kind 8; asleep, 7; busy and not 70, 71 or 81, 6
 unfoldable pub barred_note : Power → Work → ℕ → Note
 barred_note p x c =
-    pick (in_reset p || initialises x) (Told (WhileInReset c))
-    (pick (asleep p) (Told (WhileAsleep c))
-    (pick (busy x) (pick (one_of (0x70 ∷ 0x71 ∷ 0x81 ∷ []) c) Quiet (Told (WhileBusy c)))
-    Quiet))
+    pick (in_reset p || initialises x) (Some (WhileInReset c))
+    (pick (asleep p) (Some (WhileAsleep c))
+    (pick (busy x) (pick (one_of (0x70 ∷ 0x71 ∷ 0x81 ∷ []) c) None (Some (WhileBusy c)))
+    None))
 
 -- the command is under way: no byte yet, the cursor at the first column and row of the written area
 unfoldable pub begun : ℕ → Kind → Uc8253 → Uc8253
@@ -127,8 +126,8 @@ sorted_by clock kind.Read c p = executed clock c (begun c kind.Read p)
 
 -- after 6, 7 or 8 data is ignored
 abbrev pub passed_by : (Uc8253 → Counting) → Note → ℕ → Uc8253 → Uc8253
-passed_by clock (Told k) c p = ignoring p
-passed_by clock Quiet c p = sorted_by clock (kind_of c p.config.variant) c p
+passed_by clock (Some k) c p = ignoring p
+passed_by clock None c p = sorted_by clock (kind_of c p.config.variant) c p
 
 -- a command byte
 unfoldable pub command_byte : (Uc8253 → Counting) → ℕ → Uc8253 → Uc8253
@@ -136,14 +135,14 @@ command_byte clock c p = passed_by clock (barred_note p.mode.power p.operation.w
 
 -- what it tells itself: 8, 7 or 6; unknown, kind 1; 15, 17, A0 and A1, kind 2; a refresh that is refused
 abbrev pub sort_note : Kind → ℕ → Uc8253 → Note
-sort_note kind.Unknown c p = Told (UnknownCommand c)
-sort_note (kind.Unsupported n) c p = Told (UnsupportedCommand c)
-sort_note (kind.Write n) c p = pick (eqb c 0x12) (refresh_note (get_or p.regs.psr 0 0) p.mode.powered) Quiet
-sort_note kind.Read c p = Quiet
+sort_note kind.Unknown c p = Some (UnknownCommand c)
+sort_note (kind.Unsupported n) c p = Some (UnsupportedCommand c)
+sort_note (kind.Write n) c p = pick (eqb c 0x12) (refresh_note (get_or p.regs.psr 0 0) p.mode.powered) None
+sort_note kind.Read c p = None
 
 abbrev pub pass_note : Note → ℕ → Uc8253 → Note
-pass_note (Told k) c p = Told k
-pass_note Quiet c p = sort_note (kind_of c p.config.variant) c p
+pass_note (Some k) c p = Some k
+pass_note None c p = sort_note (kind_of c p.config.variant) c p
 
 unfoldable pub command_note : ℕ → Uc8253 → Note
 command_note c p = pass_note (barred_note p.mode.power p.operation.work c) c p

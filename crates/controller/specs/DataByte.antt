@@ -1,5 +1,5 @@
 -- Document 01, "A data byte".
-use Rattle.std.specs.Prelude.{Bool, true, false, List, ℕ, ◌+◌, min, eqb, ltb}
+use Rattle.std.specs.Prelude.{None, Some, Bool, true, false, List, ℕ, ◌+◌, min, eqb, ltb}
 use Rattle.base.specs.Pick.{pick}
 use Rattle.registers.specs.Bytes.{byte_of}
 use Rattle.registers.specs.Luts.{reset_luts, lut_byte_of}
@@ -19,8 +19,7 @@ use Rattle.controller.specs.declared.Active.{Active}
 use Rattle.controller.specs.declared.Current.{Current}
 use Rattle.controller.specs.declared.Current.TheVariants as current
 use Rattle.controller.specs.declared.Uc8253.{Uc8253}
-use Rattle.controller.specs.declared.notes.Note.{Note}
-use Rattle.controller.specs.declared.notes.Note.TheVariants.{Quiet, Told}
+use Rattle.controller.specs.Maybe.{Note}
 use Rattle.controller.specs.declared.uses.Use.{Use}
 use Rattle.controller.specs.declared.uses.Use.TheVariants as use-for
 use Rattle.controller.specs.Setters.{with_current, with_regs, with_luts, with_powered}
@@ -127,7 +126,7 @@ abbrev pub past_row : Area → Cursor → Bool
 past_row area c = ltb area.y1 c.y
 
 unfoldable pub past_note : Active → Uc8253 → Note
-past_note a p = pick (past_row (written_of p.regs) a.cursor) (pick a.past_reported Quiet (Told (PastTheWindow a.command))) Quiet
+past_note a p = pick (past_row (written_of p.regs) a.cursor) (pick a.past_reported None (Some (PastTheWindow a.command))) None
 
 unfoldable pub pixel_byte : Active → Uc8253 → Uc8253
 pixel_byte a p = pick (past_row (written_of p.regs) a.cursor) (under (past_of a) p) (pixel_chip a p)
@@ -165,19 +164,19 @@ data_byte clock b p = given_by clock p.stage.current b p
 
 -- what it tells: beyond the largest count, kind 4; 07 without A5, kind 9; past the last row, kind 10 once
 abbrev pub used_note : Use → Active → ℕ → Uc8253 → Note
-used_note use-for.Extra a b p = Told (ExtraData a.command)
-used_note use-for.Quiet a b p = Quiet
-used_note use-for.Soft a b p = Quiet
-used_note use-for.Sleep a b p = Quiet
-used_note use-for.Wrong a b p = Told (WrongCheckCode b)
-used_note use-for.Register a b p = Quiet
+used_note use-for.Extra a b p = Some (ExtraData a.command)
+used_note use-for.Quiet a b p = None
+used_note use-for.Soft a b p = None
+used_note use-for.Sleep a b p = None
+used_note use-for.Wrong a b p = Some (WrongCheckCode b)
+used_note use-for.Register a b p = None
 used_note use-for.Older a b p = past_note a p
 used_note use-for.Newer a b p = past_note a p
 
 -- with no command since making or a reset by pin, kind 3
 abbrev pub given_note : Current → ℕ → Uc8253 → Note
-given_note current.Idle b p = Told (DataWithoutCommand b)
-given_note current.Ignoring b p = Quiet
+given_note current.Idle b p = Some (DataWithoutCommand b)
+given_note current.Ignoring b p = None
 given_note (current.Active a) b p = used_note (purpose_of a b) a b p
 
 unfoldable pub data_note : ℕ → Uc8253 → Note

@@ -1,6 +1,7 @@
 pub mod World
 pub mod Counting
 pub mod Setters
+pub mod Maybe
 pub mod Tell
 pub mod Arrives
 pub mod Command

@@ -1,5 +1,5 @@
 -- Document 01, "A data byte": what a read gives.
-use Rattle.std.specs.Prelude.{List, [], ◌∷◌, ℕ, zero, suc, ◌+◌, min, eqb}
+use Rattle.std.specs.Prelude.{None, Some, List, [], ◌∷◌, ℕ, zero, suc, ◌+◌, min, eqb}
 use Rattle.base.specs.Pick.{pick}
 use Rattle.config.specs.declared.Variant.{Variant}
 use Rattle.config.specs.declared.Variant.TheVariants as variant
@@ -10,10 +10,7 @@ use Rattle.controller.specs.declared.Active.{Active}
 use Rattle.controller.specs.declared.Current.{Current}
 use Rattle.controller.specs.declared.Current.TheVariants as current
 use Rattle.controller.specs.declared.Uc8253.{Uc8253}
-use Rattle.controller.specs.declared.notes.Note.{Note}
-use Rattle.controller.specs.declared.notes.Note.TheVariants.{Quiet, Told}
-use Rattle.controller.specs.declared.reads.Read.{Read}
-use Rattle.controller.specs.declared.reads.Read.TheVariants.{Byte, Nothing}
+use Rattle.controller.specs.Maybe.{Note, Read}
 use Rattle.controller.specs.Setters.{with_current}
 use Rattle.controller.specs.Arrives.{busy_at}
 
@@ -34,25 +31,25 @@ bytes_of c p =
 
 -- and then none
 abbrev pub byte_at : List ℕ → ℕ → Read
-byte_at [] i = Nothing
-byte_at (b ∷ bs) zero = Byte b
+byte_at [] i = None
+byte_at (b ∷ bs) zero = Some b
 byte_at (b ∷ bs) (suc i) = byte_at bs i
 
 -- UC8253 gives none always
 abbrev pub driven_byte : Variant → Uc8253 → ℕ → ℕ → Read
-driven_byte variant.Uc8253 p c i = Nothing
+driven_byte variant.Uc8253 p c i = None
 driven_byte variant.Uc8279d p c i = byte_at (bytes_of c p) i
 
 -- what is read of a command: none under any but a read command
 abbrev pub read_under : Kind → Active → Uc8253 → Read
-read_under (kind.Write n) a p = Nothing
+read_under (kind.Write n) a p = None
 read_under kind.Read a p = driven_byte p.config.variant p a.command a.read
-read_under (kind.Unsupported n) a p = Nothing
-read_under kind.Unknown a p = Nothing
+read_under (kind.Unsupported n) a p = None
+read_under kind.Unknown a p = None
 
 abbrev pub read_from : Current → Uc8253 → Read
-read_from current.Idle p = Nothing
-read_from current.Ignoring p = Nothing
+read_from current.Idle p = None
+read_from current.Ignoring p = None
 read_from (current.Active a) p = read_under a.kind a p
 
 unfoldable pub read_of : Uc8253 → Read
@@ -86,18 +83,18 @@ reading p = reading_by p.stage.current p
 
 -- a first read with no byte under a read command stores kind 14
 abbrev pub missed_note : Read → Active → Note
-missed_note (Byte b) a = Quiet
-missed_note Nothing a = pick (eqb a.read 0) (Told (NothingToRead a.command)) Quiet
+missed_note (Some b) a = None
+missed_note None a = pick (eqb a.read 0) (Some (NothingToRead a.command)) None
 
 abbrev pub under_note : Kind → Active → Uc8253 → Note
-under_note (kind.Write n) a p = Quiet
+under_note (kind.Write n) a p = None
 under_note kind.Read a p = missed_note (driven_byte p.config.variant p a.command a.read) a
-under_note (kind.Unsupported n) a p = Quiet
-under_note kind.Unknown a p = Quiet
+under_note (kind.Unsupported n) a p = None
+under_note kind.Unknown a p = None
 
 abbrev pub read_note_by : Current → Uc8253 → Note
-read_note_by current.Idle p = Quiet
-read_note_by current.Ignoring p = Quiet
+read_note_by current.Idle p = None
+read_note_by current.Ignoring p = None
 read_note_by (current.Active a) p = under_note a.kind a p
 
 unfoldable pub read_note : Uc8253 → Note

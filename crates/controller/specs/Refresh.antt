@@ -1,5 +1,5 @@
 -- Document 01, "A refresh": what refuses it, its start, and its end in the record. What its end does to the glass is in Glass.
-use Rattle.std.specs.Prelude.{Bool, true, false, List, ℕ, ◌+◌, ◌-◌, ◌/◌, ◌%◌, min, get_or, ℤ}
+use Rattle.std.specs.Prelude.{None, Some, Bool, true, false, List, ℕ, ◌+◌, ◌-◌, ◌/◌, ◌%◌, min, get_or, ℤ}
 use Rattle.base.specs.Word.{top}
 use Rattle.base.specs.Pick.{pick}
 use Rattle.glass.specs.declared.PanelImage.{PanelImage}
@@ -18,8 +18,7 @@ use Rattle.controller.specs.declared.Operation.{Operation}
 use Rattle.controller.specs.declared.Refresh.{Refresh}
 use Rattle.controller.specs.declared.Uc8253.{Uc8253}
 use Rattle.controller.specs.declared.Work.TheVariants as work
-use Rattle.controller.specs.declared.notes.Note.{Note}
-use Rattle.controller.specs.declared.notes.Note.TheVariants.{Quiet, Told}
+use Rattle.controller.specs.Maybe.{Note}
 use Rattle.controller.specs.Setters.{with_operation, with_waveform, with_image}
 use Rattle.controller.specs.Counting.{Counting}
 
@@ -29,10 +28,10 @@ refresh_note psr powered =
     pick (bit_set psr 5)
     (pick (bit_set psr 4)
     (pick (bit_set psr 1)
-    (pick powered Quiet (Told RefreshWithoutPower))
-    (Told (RefreshNotModelled 3)))
-    (Told (RefreshNotModelled 2)))
-    (Told (RefreshNotModelled 1))
+    (pick powered None (Some RefreshWithoutPower))
+    (Some (RefreshNotModelled 3)))
+    (Some (RefreshNotModelled 2)))
+    (Some (RefreshNotModelled 1))
 
 -- the waveform that the registers give: the tables, the levels of 01, and the period of the low five bits of 30; with VCOM's rule
 -- in force (2026-08)
@@ -63,8 +62,8 @@ unfoldable pub refresh_started : (Uc8253 → Counting) → Uc8253 → Uc8253
 refresh_started clock p = with_operation (refreshing clock p) (with_waveform (waveform_now p) p)
 
 abbrev pub refreshed_by : (Uc8253 → Counting) → Note → Uc8253 → Uc8253
-refreshed_by clock (Told k) p = p
-refreshed_by clock Quiet p = refresh_started clock p
+refreshed_by clock (Some k) p = p
+refreshed_by clock None p = refresh_started clock p
 
 -- 12
 unfoldable pub refreshed : (Uc8253 → Counting) → Uc8253 → Uc8253

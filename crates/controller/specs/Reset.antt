@@ -1,5 +1,5 @@
 -- Document 01, "A call arrives": the reset line.
-use Rattle.std.specs.Prelude.{Bool, true, false}
+use Rattle.std.specs.Prelude.{None, Some, Bool, true, false}
 use Rattle.registers.specs.Luts.{reset_luts}
 use Rattle.registers.specs.Reset.{reset_of}
 use Rattle.diagnostic.specs.declared.DiagnosticKind.TheVariants.{ResetDuringRefresh}
@@ -9,8 +9,7 @@ use Rattle.controller.specs.declared.Work.{Work}
 use Rattle.controller.specs.declared.Work.TheVariants as work
 use Rattle.controller.specs.declared.Current.TheVariants as current
 use Rattle.controller.specs.declared.Uc8253.{Uc8253}
-use Rattle.controller.specs.declared.notes.Note.{Note}
-use Rattle.controller.specs.declared.notes.Note.TheVariants.{Quiet, Told}
+use Rattle.controller.specs.Maybe.{Note}
 use Rattle.controller.specs.declared.notes.Notes.{Notes}
 use Rattle.controller.specs.Setters.{with_current, with_regs, with_luts, with_power, with_powered, with_operation}
 use Rattle.controller.specs.Tell.{notes, silent}
@@ -57,13 +56,13 @@ reset_edge clock asserted p = edge clock asserted p
 
 -- what it tells: in mid-refresh first kind 15; then the command closes
 abbrev pub cut_note : Work → Note
-cut_note work.Nothing = Quiet
-cut_note work.PowerOn = Quiet
-cut_note work.PowerOff = Quiet
-cut_note work.DeepSleep = Quiet
-cut_note work.SoftReset = Quiet
-cut_note work.HardwareReset = Quiet
-cut_note (work.Refresh r) = Told ResetDuringRefresh
+cut_note work.Nothing = None
+cut_note work.PowerOn = None
+cut_note work.PowerOff = None
+cut_note work.DeepSleep = None
+cut_note work.SoftReset = None
+cut_note work.HardwareReset = None
+cut_note (work.Refresh r) = Some ResetDuringRefresh
 
 abbrev pub lowered_notes : Power → Uc8253 → Notes
 lowered_notes power.Running p = notes (cut_note p.operation.work) (close_note p.stage.current)

@@ -1,27 +1,26 @@
 -- Document 01, "A call arrives": a diagnostic is stored, or dropped. A call tells at most two, and both carry the clock.
-use Rattle.std.specs.Prelude.{List, ℕ}
+use Rattle.std.specs.Prelude.{None, Some, List, ℕ}
 use Rattle.diagnostic_log.specs.declared.Log.{Log}
 use Rattle.diagnostic_log.specs.Log.{reported, rows_after}
-use Rattle.controller.specs.declared.notes.Note.{Note}
-use Rattle.controller.specs.declared.notes.Note.TheVariants.{Quiet, Told}
+use Rattle.controller.specs.Maybe.{Note}
 use Rattle.controller.specs.declared.notes.Notes.{Notes}
 
 -- the log counts it
 abbrev pub log_noted : Note → Log → Log
-log_noted Quiet g = g
-log_noted (Told k) g = reported g
+log_noted None g = g
+log_noted (Some k) g = reported g
 
 -- the rows store it, with the clock
 abbrev pub row_noted : Note → ℕ → Log → List ℕ → List ℕ
-row_noted Quiet now g rows = rows
-row_noted (Told k) now g rows = rows_after g now k rows
+row_noted None now g rows = rows
+row_noted (Some k) now g rows = rows_after g now k rows
 
 -- what a call tells, in order
 abbrev pub notes : Note → Note → Notes
 notes first second = record { first = first; second = second }
 
 abbrev pub silent : Notes
-silent = notes Quiet Quiet
+silent = notes None None
 
 -- the log after it, and the rows
 abbrev pub log_told : Notes → Log → Log

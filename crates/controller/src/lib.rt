@@ -6,19 +6,18 @@
 #![tactic(auto)]
 
 mod drives;
+mod lent;
 mod notes;
-mod reads;
 mod uses;
 
-use base::Refusal;
 use command::Kind;
 use config::Uc8253Config;
 use diagnostic_log::Log;
 pub use drives::Drive;
 use glass::{PanelImage, RefreshKind};
-pub use notes::{Note, Notes};
+pub use lent::Lent;
+pub use notes::Notes;
 use ram::Cursor;
-pub use reads::Read;
 use registers::{Area, Luts, Registers};
 pub use uses::Use;
 use waveform::Waveform;
@@ -101,13 +100,6 @@ pub struct Operation {
     pub until: u64,
 }
 
-// When what runs ends.
-#[derive(Clone, Copy)]
-pub enum Due {
-    Never,
-    At(u64),
-}
-
 // The X3's controller and the head of the picture that its glass shows.
 #[derive(Clone, Copy)]
 pub struct Uc8253 {
@@ -123,11 +115,4 @@ pub struct Uc8253 {
     pub log: Log,
     // The clock.
     pub now: u64,
-}
-
-// What a call gives back: the record after it, and what turned it back, if anything did.
-#[derive(Clone, Copy)]
-pub struct Answer {
-    pub chip: Uc8253,
-    pub refused: Refusal,
 }

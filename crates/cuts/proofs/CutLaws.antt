@@ -1,5 +1,6 @@
 -- A cut that is found is what the event's call does: it tells kind 15, drives the frames found, publishes a picture marked interrupted, and
 -- then resets; where none is found, a call that asserts reset publishes nothing. By the question that both ask (controller: `driven_at`).
+use Rattle.std.proofs.Common.{None, Some}
 use mathlib.Core.Path.{◌≡◌, refl, sym, ap, ◌∙◌}
 use mathlib.Core.Bool.{Bool, true, false, ◌||◌, ◌&&◌, true≢false, and-false}
 use Prim.Native.Nat.{ℕ, max}
@@ -17,8 +18,7 @@ use Rattle.controller.specs.declared.Work.TheVariants as work
 use Rattle.controller.specs.declared.Refresh.{Refresh}
 use Rattle.controller.specs.declared.Uc8253.{Uc8253}
 use Rattle.controller.specs.declared.drives.Drive.TheVariants as drive
-use Rattle.controller.specs.declared.notes.Note.{Note}
-use Rattle.controller.specs.declared.notes.Note.TheVariants.{Quiet, Told}
+use Rattle.controller.specs.Maybe.{Note}
 use Rattle.controller.specs.World.{World}
 use Rattle.controller.specs.Tell.{notes, silent}
 use Rattle.controller.specs.Arrives.{timed, ended_by, ended, arrived}
@@ -33,7 +33,6 @@ use Rattle.controller.proofs.TurnedAway.{done_to, did_yes}
 use Rattle.event.specs.declared.Event.{Event}
 use Rattle.event.specs.Events.{asserts, event_done, event_done_by, event_refused}
 use Rattle.cuts.specs.declared.finding.Cut.{Cut}
-use Rattle.cuts.specs.declared.finding.Found.TheVariants as found
 use Rattle.cuts.specs.Cuts.{cut_at, cut_of}
 use Rattle.cuts.specs.Cuts as rule
 
@@ -44,7 +43,7 @@ pub record CutAt (t : ℕ) (c : Cut) (w v : World) : Type 0 where
   pub runs : w.chip.operation.work ≡ work.Refresh refresh
   pub is : c ≡ cut_at t (elapsed own (timed t w.chip)) w.chip
   pub call : v ≡ done_to own (reset t true) w
-  pub tells : told_by (reset t true) w.chip ≡ notes (Told ResetDuringRefresh) (close_note w.chip.stage.current)
+  pub tells : told_by (reset t true) w.chip ≡ notes (Some ResetDuringRefresh) (close_note w.chip.stage.current)
   pub drives : driven_by own (reset t true) w.chip ≡ drive.First c.frames
   pub leaves : chip_after own (reset t true) w.chip ≡ cleared (cut_refresh refresh (timed t w.chip))
 
@@ -52,7 +51,7 @@ pub record CutAt (t : ℕ) (c : Cut) (w v : World) : Type 0 where
 pub record Spares (t : ℕ) (w v : World) : Type 0 where
   pub call : v ≡ done_to own (reset t true) w
   pub tells : told_by (reset t true) w.chip
-      ≡ pick (cuts (arrived t w.chip).mode.power true) (notes Quiet (close_note (arrived t w.chip).stage.current)) silent
+      ≡ pick (cuts (arrived t w.chip).mode.power true) (notes None (close_note (arrived t w.chip).stage.current)) silent
   pub drives : driven_by own (reset t true) w.chip ≡ driven_by own (advance t) w.chip
   pub leaves : chip_after own (reset t true) w.chip
       ≡ pick (cuts (arrived t w.chip).mode.power true) (cleared (arrived t w.chip)) (arrived t w.chip)
@@ -85,7 +84,7 @@ running work.SoftReset e = absurd (true≢false (sym e))
 running work.HardwareReset e = absurd (true≢false (sym e))
 running (work.Refresh r) e = record { refresh = r; is = refl }
 
-none : (c : Cut) → found.Nothing ≡ found.Cut c → ⊥
+none : (c : Cut) → None ≡ Some c → ⊥
 none c e = let z : ◌≡◌ {A = ℕ} 0 1 = cc in omega arith
 
 module _ (t : ℕ) (p : Uc8253) where
@@ -100,7 +99,7 @@ module _ (t : ℕ) (p : Uc8253) where
     late : soon ≡ false
     is : c ≡ cut_at t (elapsed own (timed t p)) p
 
-  cutting : (a : Bool) (c : Cut) → cut_of (driven_at own a t p) t p ≡ found.Cut c → Cutting a c
+  cutting : (a : Bool) (c : Cut) → cut_of (driven_at own a t p) t p ≡ Some c → Cutting a c
   unfolding driven_at ends_refresh
   cutting a c e =
       let r = refresh_runs p.operation.work in
@@ -110,7 +109,7 @@ module _ (t : ℕ) (p : Uc8253) where
       (λ s.
       let g = each r (cuts p.mode.power a) (rw s at h) in
       let o = out p.mode.power a g.1 in
-      let same : found.Cut (cut_at t (elapsed own (timed t p)) p) ≡ found.Cut c = rw (h, s) at e in
+      let same : Some (cut_at t (elapsed own (timed t p)) p) ≡ Some c = rw (h, s) at e in
       record { asserted = o.0; line = o.1; refresh = running p.operation.work g.0; late = s; is = cc }))
       (λ h. absurd (none c (rw h at e)))
 
@@ -128,7 +127,7 @@ module _ (t : ℕ) (p : Uc8253) where
   idle work.HardwareReset e = refl
   idle (work.Refresh r) e = refl
 
-  sparing : cut_of (driven_at own true t p) t p ≡ found.Nothing → Sparing
+  sparing : cut_of (driven_at own true t p) t p ≡ None → Sparing
   unfolding driven_at ends_refresh arrived ended
   sparing e =
       let r = refresh_runs p.operation.work in
@@ -147,7 +146,7 @@ lowered power.Asleep q e = (refl, refl)
 lowered power.InReset q e = absurd (true≢false (sym e))
 
 whole : (x : Work) (q : Uc8253) (n : Note) → (refresh_runs x && true) ≡ false
-    → (cleared (cut_by x q) ≡ cleared q) × (notes (cut_note x) n ≡ notes Quiet n)
+    → (cleared (cut_by x q) ≡ cleared q) × (notes (cut_note x) n ≡ notes None n)
 whole work.Nothing q n e = (refl, refl)
 whole work.PowerOn q n e = (refl, refl)
 whole work.PowerOff q n e = (refl, refl)
@@ -158,7 +157,7 @@ whole (work.Refresh r) q n e = absurd (true≢false e)
 
 spared : (x : Power) (q : Uc8253) → (refresh_runs q.operation.work && cuts x true) ≡ false
     → (lowered_by x q ≡ pick (cuts x true) (cleared q) q)
-    × (lowered_notes x q ≡ pick (cuts x true) (notes Quiet (close_note q.stage.current)) silent)
+    × (lowered_notes x q ≡ pick (cuts x true) (notes None (close_note q.stage.current)) silent)
 spared power.Running q e = whole q.operation.work q (close_note q.stage.current) e
 spared power.Asleep q e = whole q.operation.work q (close_note q.stage.current) e
 spared power.InReset q e = (refl, refl)
@@ -173,7 +172,7 @@ event_resets e w z a =
     let taken : turned_back true e.time w ≡ 0 = rw (k, v) at z in
     rw (k, v) (did_yes (reset e.time true) w (eq-eqb (turned_back true e.time w) 0 taken))
 
-pub event_cuts : (e : Event) (w : World) (c : Cut) → event_refused e w ≡ 0 → rule.cut_by e w.chip ≡ found.Cut c
+pub event_cuts : (e : Event) (w : World) (c : Cut) → event_refused e w ≡ 0 → rule.cut_by e w.chip ≡ Some c
     → CutAt e.time c w (event_done e w)
 unfolding rule.cut_by arrived ended reset_edge driven_at ends_refresh
 event_cuts e w c z f =
@@ -191,7 +190,7 @@ event_cuts e w c z f =
       leaves = rw k.late (low.0 ∙ ap (λ (x : Work). cleared (cut_by x (timed e.time p))) r);
     }
 
-pub event_spares : (e : Event) (w : World) → event_refused e w ≡ 0 → asserts e ≡ true → rule.cut_by e w.chip ≡ found.Nothing
+pub event_spares : (e : Event) (w : World) → event_refused e w ≡ 0 → asserts e ≡ true → rule.cut_by e w.chip ≡ None
     → Spares e.time w (event_done e w)
 unfolding rule.cut_by reset_edge
 event_spares e w z a n =

@@ -1,5 +1,5 @@
 -- `cut TIME FRAMES OF`: the clock at which reset was asserted, the whole frames until then, and those of the whole refresh.
-use Rattle.std.specs.Prelude.{List, [], ◌∷◌, ◌++◌, ℕ}
+use Rattle.std.specs.Prelude.{List, ◌∷◌, ◌++◌, ℕ}
 use Rattle.text.specs.Text.{ascii, digits}
 use Rattle.cuts.specs.declared.finding.Cut.{Cut}
 

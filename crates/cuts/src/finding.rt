@@ -3,7 +3,6 @@ ghost use Rattle.std.specs.Prelude.{◌≡◌};
 ghost use Rattle.cuts.specs.Cuts as rule;
 ghost use Rattle.event.specs.Events as events;
 
-use base::greatest;
 use capture::RESET;
 use controller::{Drive, Uc8253};
 use event::Event;
@@ -20,34 +19,24 @@ pub struct Cut {
     pub of: u64,
 }
 
-#[derive(Clone, Copy)]
-pub enum Found {
-    Cut(Cut),
-    Nothing,
-}
-
+#[tactic(auto, unfolding(event::specs::Events::asserts))]
 fn asserts(event: Event) -> bool
     ensures { result ≡ events.asserts event }
 {
-    if event.kind != RESET {
-        return false;
-    }
-    event.value == ASSERTED
+    event.kind == RESET && event.value == ASSERTED
 }
 
 // The refresh is cut where the call drives its first frames alone.
-pub fn cut_by(p: Uc8253, event: Event) -> Found
+#[tactic(auto, unfolding(crate::specs::Cuts::cut_by))]
+pub fn cut_by(p: Uc8253, event: Event) -> Option<Cut>
     ensures { result ≡ rule.cut_by event p }
 {
-    let drive = drive_at(p, event.time, asserts(event));
-    match drive {
-        Drive::Nothing => Found::Nothing,
-        Drive::Whole => Found::Nothing,
-        Drive::First(frames) => {
-            let waveform = p.waveform;
-            let at = greatest(p.now, event.time);
-            let of = waveform.frames();
-            Found::Cut(Cut { at, frames, of })
-        }
+    match drive_at(p, event.time, asserts(event)) {
+        Drive::Nothing | Drive::Whole => None,
+        Drive::First(frames) => Some(Cut {
+            at: p.now.max(event.time),
+            frames,
+            of: p.waveform.frames(),
+        }),
     }
 }

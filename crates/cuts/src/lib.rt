@@ -5,5 +5,5 @@
 mod finding;
 mod lines;
 
-pub use finding::{Cut, Found, cut_by};
+pub use finding::{Cut, cut_by};
 pub use lines::line;

@@ -1,17 +1,19 @@
 // A cut in words.
-ghost use Rattle.text.specs.Text.{Puts};
+ghost use Rattle.std.specs.Prelude.{◌≡◌};
+ghost use Rattle.text.specs.Text.{put};
 ghost use Rattle.cuts.specs.Lines.{cut_line};
 
 use crate::finding::Cut;
-use text::{byte, number, put};
+use text::Text;
 
 // `cut TIME FRAMES OF`
-pub fn line(text: &mut [u8], held: usize, c: Cut) -> usize
-    ensures { Puts (cut_line c) held result text.old text.new }
+#[tactic(auto, using(text::proofs::Filling::puts), unfolding(crate::specs::Lines::cut_line))]
+pub fn line(text: &mut Text<'_>, c: Cut)
+    ensures { text.new ≡ put (cut_line c) text.old }
 {
-    let head = put(text, held, b"cut");
-    let time = number(text, head, c.at);
-    let frames = number(text, time, c.frames);
-    let n = number(text, frames, c.of);
-    byte(text, n, b'\n')
+    text.put(b"cut");
+    text.number(c.at);
+    text.number(c.frames);
+    text.number(c.of);
+    text.byte(b'\n');
 }

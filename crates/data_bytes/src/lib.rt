@@ -10,9 +10,9 @@ ghost use Rattle.controller.specs.DataByte as rule;
 ghost use Rattle.controller.specs.Counting.{own};
 
 use command::{Kind, Params};
-use controller::{Active, Current, Note, Uc8253, Use, Work};
+use controller::{Active, Current, Uc8253, Use, Work};
 use diagnostic::DiagnosticKind;
-pub use pixel_bytes::put_byte;
+pub use pixel_bytes::{put_at, put_byte};
 use pixel_bytes::{past_note, pixel_byte};
 pub use reading::{read_byte, read_note, read_of};
 use registers::{Luts, Registers};
@@ -21,24 +21,20 @@ use rules::{counted, purpose, start, with_current};
 fn more(a: Active) -> Active
     ensures { result ≡ rule.more_of a }
 {
-    let mut b = a;
-    b.received = counted(a.received);
-    b
+    Active {
+        received: counted(a.received),
+        ..a
+    }
 }
 
 // Later bytes are ignored silently.
 fn softly(a: Active) -> Active
     ensures { result ≡ rule.soft_of a }
 {
-    let cursor = a.cursor;
     Active {
-        command: a.command,
         kind: Kind::Write(Params::Exactly(1)),
-        received: a.received,
-        read: a.read,
-        cursor,
         extra_reported: true,
-        past_reported: a.past_reported,
+        ..a
     }
 }
 
@@ -46,10 +42,8 @@ fn softly(a: Active) -> Active
 fn soft_reset(p: Uc8253) -> Uc8253
     ensures { result ≡ rule.soft_reset own p }
 {
-    let config = p.config;
-    let variant = config.variant;
     let mut q = p;
-    q.regs = Registers::reset(variant);
+    q.regs = Registers::reset(p.config.variant);
     q.luts = Luts::reset();
     q.mode.powered = false;
     start(q, Work::SoftReset, p.config.timing.soft_reset)
@@ -58,12 +52,11 @@ fn soft_reset(p: Uc8253) -> Uc8253
 fn register_byte(p: Uc8253, a: Active, byte: u8) -> Uc8253
     ensures { result ≡ rule.register_byte a byte p }
 {
-    let regs = p.regs;
-    let luts = p.luts;
-    let mut q = p;
-    q.regs = regs.with_byte(a.command, a.received, byte);
-    q.luts = luts.with_byte(a.command, a.received, byte);
-    q
+    Uc8253 {
+        regs: p.regs.with_byte(a.command, a.received, byte),
+        luts: p.luts.with_byte(a.command, a.received, byte),
+        ..p
+    }
 }
 
 // A data byte of an active command.
@@ -71,70 +64,56 @@ fn take_byte(p: Uc8253, a: Active, byte: u8) -> Uc8253
     ensures { result ≡ rule.used_by own (rule.purpose_of a byte) a byte p }
 {
     let b = more(a);
-    let used = purpose(a, byte);
-    match used {
+    match purpose(a, byte) {
         Use::Extra => {
-            let mut e = b;
-            e.extra_reported = true;
-            with_current(p, Current::Active(e))
+            let extra = Active {
+                extra_reported: true,
+                ..b
+            };
+            with_current(p, Current::Active(extra))
         }
-        Use::Quiet => with_current(p, Current::Active(b)),
-        Use::Soft => {
-            let q = soft_reset(p);
-            with_current(q, Current::Active(softly(b)))
-        }
+        Use::Quiet | Use::Wrong => with_current(p, Current::Active(b)),
+        Use::Soft => with_current(soft_reset(p), Current::Active(softly(b))),
         Use::Sleep => {
             let q = start(p, Work::DeepSleep, p.config.timing.deep_sleep);
             with_current(q, Current::Active(b))
         }
-        Use::Wrong => with_current(p, Current::Active(b)),
-        Use::Register => {
-            let q = register_byte(p, a, byte);
-            with_current(q, Current::Active(b))
-        }
-        Use::Older => pixel_byte(p, b),
-        Use::Newer => pixel_byte(p, b),
+        Use::Register => with_current(register_byte(p, a, byte), Current::Active(b)),
+        Use::Older | Use::Newer => pixel_byte(p, b),
     }
 }
 
 // The record after a data byte.
+#[tactic(auto, unfolding(controller::specs::DataByte::data_byte))]
 pub fn data_byte(p: Uc8253, byte: u8) -> Uc8253
     ensures { result ≡ rule.data_byte own byte p }
 {
-    let stage = p.stage;
-    let current = stage.current;
-    match current {
+    match p.stage.current {
         Current::Idle => with_current(p, Current::Ignoring),
         Current::Ignoring => p,
         Current::Active(active) => take_byte(p, active, byte),
     }
 }
 
-fn take_note(p: Uc8253, a: Active, byte: u8) -> Note
+fn take_note(p: Uc8253, a: Active, byte: u8) -> Option<DiagnosticKind>
     ensures { result ≡ rule.used_note (rule.purpose_of a byte) a byte p }
 {
-    let used = purpose(a, byte);
-    match used {
-        Use::Extra => Note::Told(DiagnosticKind::ExtraData { command: a.command }),
-        Use::Quiet => Note::Quiet,
-        Use::Soft => Note::Quiet,
-        Use::Sleep => Note::Quiet,
-        Use::Wrong => Note::Told(DiagnosticKind::WrongCheckCode { code: byte }),
-        Use::Register => Note::Quiet,
-        Use::Older => past_note(p, a),
-        Use::Newer => past_note(p, a),
+    match purpose(a, byte) {
+        Use::Extra => Some(DiagnosticKind::ExtraData { command: a.command }),
+        Use::Wrong => Some(DiagnosticKind::WrongCheckCode { code: byte }),
+        Use::Older | Use::Newer => past_note(p, a),
+        Use::Quiet | Use::Soft | Use::Sleep | Use::Register => None,
     }
 }
 
 // What a data byte tells.
-pub fn data_note(p: Uc8253, byte: u8) -> Note
+#[tactic(auto, unfolding(controller::specs::DataByte::data_note))]
+pub fn data_note(p: Uc8253, byte: u8) -> Option<DiagnosticKind>
     ensures { result ≡ rule.data_note byte p }
 {
-    let stage = p.stage;
-    let current = stage.current;
-    match current {
-        Current::Idle => Note::Told(DiagnosticKind::DataWithoutCommand { data: byte }),
-        Current::Ignoring => Note::Quiet,
+    match p.stage.current {
+        Current::Idle => Some(DiagnosticKind::DataWithoutCommand { data: byte }),
+        Current::Ignoring => None,
         Current::Active(active) => take_note(p, active, byte),
     }
 }

@@ -11,7 +11,7 @@ pub const MAX_DIAGNOSTICS: usize = 1024;
 pub const ROW: usize = 5;
 
 // What `RefreshNotModelled` names: the LUTs from the OTP (`PSR` REG = 0), KWR mode (KW/R = 0), the
-// booster off (SHD_N = 0).
+// booster off (SHD_N = 0). Numbers and no enum: `row` answers for every byte here, which may not change.
 pub const OTP: u8 = 1;
 
 pub const KWR: u8 = 2;

@@ -5,7 +5,6 @@
 ghost use Rattle.std.specs.Prelude.{◌≡◌, ◌<◌, set};
 ghost use Rattle.diagnostic_log.specs.Log.{reported, rows_after, put_row, log_emptied};
 
-use base::saturating_add;
 use diagnostic::{DiagnosticKind, MAX_DIAGNOSTICS, ROW, row};
 
 // The numbers of the lent rows: five for each of 1,024 diagnostics.
@@ -42,30 +41,32 @@ fn put_row(rows: &mut [u64], at: usize, numbers: [u64; ROW])
 }
 
 // The log after one diagnostic more: one more row, or one more that was not stored.
+#[tactic(auto, unfolding(crate::specs::Log::reported))]
 pub fn counted(log: Log) -> Log
     ensures { result ≡ reported log }
 {
     let stored = log.stored as usize;
     if stored < MAX_DIAGNOSTICS {
-        return Log {
+        Log {
             stored: log.stored + 1,
             dropped: log.dropped,
-        };
-    }
-    Log {
-        stored: log.stored,
-        dropped: saturating_add(log.dropped, 1),
+        }
+    } else {
+        Log {
+            stored: log.stored,
+            dropped: log.dropped.saturating_add(1),
+        }
     }
 }
 
 // Its five numbers as the next row, if there is room.
+#[tactic(auto, unfolding(crate::specs::Log::rows_after))]
 pub fn store(log: Log, rows: &mut [u64], at: u64, kind: DiagnosticKind)
     ensures { rows.new ≡ rows_after log at kind rows.old }
 {
     let row_at = log.stored as usize;
     if row_at < MAX_DIAGNOSTICS {
-        let numbers = row(at, kind);
-        put_row(rows, ROW * row_at, numbers);
+        put_row(rows, ROW * row_at, row(at, kind));
     }
 }
 

@@ -1,8 +1,6 @@
 -- What is said of two captures A and B: of their configurations, of what differs first, and of their pixels.
-use Rattle.std.specs.Prelude.{List, [], ℕ, eqb, length}
+use Rattle.std.specs.Prelude.{Option, Some, None, List, [], ℕ, eqb, length}
 use Rattle.base.specs.Pick.{pick}
-use Rattle.differences.specs.declared.places.Place.{Place}
-use Rattle.differences.specs.declared.places.Place.TheVariants as place
 use Rattle.differences.specs.declared.finding.Finding.{Finding}
 use Rattle.differences.specs.declared.finding.Finding.TheVariants as finding
 use Rattle.differences.specs.Places.{first_place}
@@ -14,19 +12,19 @@ abbrev pub rate_part : ℕ → ℕ → List ℕ
 rate_part rateA rateB = pick (eqb rateA rateB) [] (rate_line rateA rateB)
 
 -- the first of their 312 bytes that differs; where none does, their rates as read
-abbrev pub config_by : Place → List ℕ → List ℕ → ℕ → ℕ → List ℕ
-config_by (place.At k) a b rateA rateB = config_line a b k
-config_by place.Nowhere a b rateA rateB = rate_part rateA rateB
+abbrev pub config_by : Option ℕ → List ℕ → List ℕ → ℕ → ℕ → List ℕ
+config_by (Some k) a b rateA rateB = config_line a b k
+config_by None a b rateA rateB = rate_part rateA rateB
 
 unfoldable pub config_part : List ℕ → List ℕ → ℕ → ℕ → List ℕ
 config_part a b rateA rateB = config_by (first_place a b) a b rateA rateB
 
 -- what differs first, of the events, rows and pictures of A and B
-abbrev pub finding_part : Finding → List ℕ → List ℕ → List ℕ → List ℕ → ℕ → List ℕ → List ℕ → List ℕ
-finding_part (finding.Event i) eventsA eventsB rowsA rowsB width pictureA pictureB = event_line eventsA eventsB i
-finding_part (finding.Row i) eventsA eventsB rowsA rowsB width pictureA pictureB = row_line rowsA rowsB i
-finding_part (finding.Pixel k) eventsA eventsB rowsA rowsB width pictureA pictureB = pixel_line width pictureA pictureB k
-finding_part finding.Nothing eventsA eventsB rowsA rowsB width pictureA pictureB = []
+abbrev pub finding_part : Option Finding → List ℕ → List ℕ → List ℕ → List ℕ → ℕ → List ℕ → List ℕ → List ℕ
+finding_part (Some (finding.Event i)) eventsA eventsB rowsA rowsB width pictureA pictureB = event_line eventsA eventsB i
+finding_part (Some (finding.Row i)) eventsA eventsB rowsA rowsB width pictureA pictureB = row_line rowsA rowsB i
+finding_part (Some (finding.Pixel k)) eventsA eventsB rowsA rowsB width pictureA pictureB = pixel_line width pictureA pictureB k
+finding_part None eventsA eventsB rowsA rowsB width pictureA pictureB = []
 
 -- how many pixels differ; panels of different sizes are not compared
 unfoldable pub pixels_part : ℕ → ℕ → List ℕ → ℕ → ℕ → List ℕ → List ℕ

@@ -1,6 +1,6 @@
 // Two captures compared: where two lists differ first, in how many entries and by how much, and the
 // lines that say so.
-#![tactic(auto)]
+#![tactic(auto, using(text::proofs::Filling::puts))]
 
 mod distances;
 mod finding;
@@ -13,4 +13,4 @@ pub use distances::{Spread, apart};
 pub use finding::{Finding, find};
 pub use lines::{agreement, refused_line};
 pub use parts::{config_part, finding_part, pixels_part};
-pub use places::{Place, first_byte, first_number};
+pub use places::first_place;

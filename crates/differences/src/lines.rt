@@ -1,32 +1,34 @@
 // The lines of a comparison.
 ghost use Rattle.std.specs.Prelude.{◌≡◌, ◌/◌, ◌%◌, get_or};
-ghost use Rattle.text.specs.Text.{Puts};
+ghost use Rattle.text.specs.Text.{put};
 ghost use Rattle.differences.specs.Lines as rule;
 
 use crate::distances::Spread;
 use crate::sides::{event_sides, row_sides};
-use text::{byte, decimal, number, put};
+use text::Text;
 
 // `event 17: command 18 at 100, data 18 at 100`
-pub(crate) fn event_line(text: &mut [u8], held: usize, a: &[u8], b: &[u8], i: usize) -> usize
-    ensures { Puts (rule.event_line a.now b.now i) held result text.old text.new }
+#[tactic(auto, using(text::proofs::Filling::puts), unfolding(crate::specs::Lines::event_line))]
+pub(crate) fn event_line(text: &mut Text<'_>, a: &[u8], b: &[u8], i: usize)
+    ensures { text.new ≡ put (rule.event_line a.now b.now i) text.old }
 {
-    let head = put(text, held, b"event ");
-    let index = decimal(text, head, i as u64);
-    let n = put(text, index, b": ");
-    let end = event_sides(text, n, a, b, i);
-    byte(text, end, b'\n')
+    text.put(b"event ");
+    text.decimal(i as u64);
+    text.put(b": ");
+    event_sides(text, a, b, i);
+    text.byte(b'\n');
 }
 
 // `row 3: 100 13 34 6 0, 100 5 34 6 0`
-pub(crate) fn row_line(text: &mut [u8], held: usize, a: &[u64], b: &[u64], i: usize) -> usize
-    ensures { Puts (rule.row_line a.now b.now i) held result text.old text.new }
+#[tactic(auto, using(text::proofs::Filling::puts), unfolding(crate::specs::Lines::row_line))]
+pub(crate) fn row_line(text: &mut Text<'_>, a: &[u64], b: &[u64], i: usize)
+    ensures { text.new ≡ put (rule.row_line a.now b.now i) text.old }
 {
-    let head = put(text, held, b"row ");
-    let index = decimal(text, head, i as u64);
-    let n = put(text, index, b": ");
-    let end = row_sides(text, n, a, b, i);
-    byte(text, end, b'\n')
+    text.put(b"row ");
+    text.decimal(i as u64);
+    text.put(b": ");
+    row_sides(text, a, b, i);
+    text.byte(b'\n');
 }
 
 // Entry k; 0 past the last.
@@ -40,12 +42,12 @@ fn entry(l: &[u8], k: usize) -> u64
 }
 
 // `128, 0`
-fn pair(text: &mut [u8], held: usize, a: &[u8], b: &[u8], k: usize) -> usize
-    ensures { Puts (rule.pair a.now b.now k) held result text.old text.new }
+fn pair(text: &mut Text<'_>, a: &[u8], b: &[u8], k: usize)
+    ensures { text.new ≡ put (rule.pair a.now b.now k) text.old }
 {
-    let first = decimal(text, held, entry(a, k));
-    let n = put(text, first, b", ");
-    decimal(text, n, entry(b, k))
+    text.decimal(entry(a, k));
+    text.put(b", ");
+    text.decimal(entry(b, k));
 }
 
 // The column and the row of pixel k.
@@ -68,109 +70,107 @@ fn row(k: usize, width: u16) -> u64
 }
 
 // `pixel 5 2: 128, 0`
-pub(crate) fn pixel_line(
-    text: &mut [u8],
-    held: usize,
-    width: u16,
-    a: &[u8],
-    b: &[u8],
-    k: usize,
-) -> usize
-    ensures { Puts (rule.pixel_line width a.now b.now k) held result text.old text.new }
+#[tactic(auto, using(text::proofs::Filling::puts), unfolding(crate::specs::Lines::pixel_line))]
+pub(crate) fn pixel_line(text: &mut Text<'_>, width: u16, a: &[u8], b: &[u8], k: usize)
+    ensures { text.new ≡ put (rule.pixel_line width a.now b.now k) text.old }
 {
-    let head = put(text, held, b"pixel");
-    let x = number(text, head, column(k, width));
-    let y = number(text, x, row(k, width));
-    let n = put(text, y, b": ");
-    let end = pair(text, n, a, b, k);
-    byte(text, end, b'\n')
+    text.put(b"pixel");
+    text.number(column(k, width));
+    text.number(row(k, width));
+    text.put(b": ");
+    pair(text, a, b, k);
+    text.byte(b'\n');
 }
 
 // `configuration byte 6: 0, 255`
-pub(crate) fn config_line(text: &mut [u8], held: usize, a: &[u8], b: &[u8], k: usize) -> usize
-    ensures { Puts (rule.config_line a.now b.now k) held result text.old text.new }
+#[tactic(auto, using(text::proofs::Filling::puts), unfolding(crate::specs::Lines::config_line))]
+pub(crate) fn config_line(text: &mut Text<'_>, a: &[u8], b: &[u8], k: usize)
+    ensures { text.new ≡ put (rule.config_line a.now b.now k) text.old }
 {
-    let head = put(text, held, b"configuration byte");
-    let index = number(text, head, k as u64);
-    let n = put(text, index, b": ");
-    let end = pair(text, n, a, b, k);
-    byte(text, end, b'\n')
+    text.put(b"configuration byte");
+    text.number(k as u64);
+    text.put(b": ");
+    pair(text, a, b, k);
+    text.byte(b'\n');
 }
 
 // `configuration rate: 1000000000, 32768`
-pub(crate) fn rate_line(text: &mut [u8], held: usize, a: u64, b: u64) -> usize
-    ensures { Puts (rule.rate_line a b) held result text.old text.new }
+#[tactic(auto, using(text::proofs::Filling::puts), unfolding(crate::specs::Lines::rate_line))]
+pub(crate) fn rate_line(text: &mut Text<'_>, a: u64, b: u64)
+    ensures { text.new ≡ put (rule.rate_line a b) text.old }
 {
-    let head = put(text, held, b"configuration rate:");
-    let first = number(text, head, a);
-    let n = put(text, first, b",");
-    let end = number(text, n, b);
-    byte(text, end, b'\n')
+    text.put(b"configuration rate:");
+    text.number(a);
+    text.put(b",");
+    text.number(b);
+    text.byte(b'\n');
 }
 
 // `8 by 1`
-fn size(text: &mut [u8], held: usize, width: u16, height: u16) -> usize
-    ensures { Puts (rule.size_words width height) held result text.old text.new }
+fn size(text: &mut Text<'_>, width: u16, height: u16)
+    ensures { text.new ≡ put (rule.size_words width height) text.old }
 {
-    let columns = decimal(text, held, width as u64);
-    let n = put(text, columns, b" by");
-    number(text, n, height as u64)
+    text.decimal(width as u64);
+    text.put(b" by");
+    text.number(height as u64);
 }
 
 // `panels of 8 by 1 and 16 by 1: pixels not compared`
+#[tactic(auto, using(text::proofs::Filling::puts), unfolding(crate::specs::Lines::sizes_line))]
 pub(crate) fn sizes_line(
-    text: &mut [u8],
-    held: usize,
+    text: &mut Text<'_>,
     width_a: u16,
     height_a: u16,
     width_b: u16,
     height_b: u16,
-) -> usize
-    ensures { Puts (rule.sizes_line width_a height_a width_b height_b) held result text.old text.new }
+)
+    ensures { text.new ≡ put (rule.sizes_line width_a height_a width_b height_b) text.old }
 {
-    let head = put(text, held, b"panels of ");
-    let first = size(text, head, width_a, height_a);
-    let n = put(text, first, b" and ");
-    let second = size(text, n, width_b, height_b);
-    put(text, second, b": pixels not compared\n")
+    text.put(b"panels of ");
+    size(text, width_a, height_a);
+    text.put(b" and ");
+    size(text, width_b, height_b);
+    text.put(b": pixels not compared\n");
 }
 
 // By how much, where some differ.
-fn by_most(text: &mut [u8], held: usize, d: Spread) -> usize
-    ensures { Puts (rule.by_most d) held result text.old text.new }
+fn by_most(text: &mut Text<'_>, d: Spread)
+    ensures { text.new ≡ put (rule.by_most d) text.old }
 {
-    if d.count == 0 {
-        return byte(text, held, b'\n');
+    if d.count != 0 {
+        text.put(b", by at most");
+        text.number(d.most);
     }
-    let n = put(text, held, b", by at most");
-    let end = number(text, n, d.most);
-    byte(text, end, b'\n')
+    text.byte(b'\n');
 }
 
 // `5 of 8 pixels differ, by at most 128`
-pub(crate) fn pixels_line(text: &mut [u8], held: usize, d: Spread, pixels: u64) -> usize
-    ensures { Puts (rule.pixels_line d pixels) held result text.old text.new }
+#[tactic(auto, using(text::proofs::Filling::puts), unfolding(crate::specs::Lines::pixels_line))]
+pub(crate) fn pixels_line(text: &mut Text<'_>, d: Spread, pixels: u64)
+    ensures { text.new ≡ put (rule.pixels_line d pixels) text.old }
 {
-    let count = decimal(text, held, d.count);
-    let of = put(text, count, b" of");
-    let all = number(text, of, pixels);
-    let n = put(text, all, b" pixels differ");
-    by_most(text, n, d)
+    text.decimal(d.count);
+    text.put(b" of");
+    text.number(pixels);
+    text.put(b" pixels differ");
+    by_most(text, d);
 }
 
-pub fn agreement(text: &mut [u8], held: usize) -> usize
-    ensures { Puts rule.agreement_line held result text.old text.new }
+#[tactic(auto, using(text::proofs::Filling::puts), unfolding(crate::specs::Lines::agreement_line))]
+pub fn agreement(text: &mut Text<'_>)
+    ensures { text.new ≡ put rule.agreement_line text.old }
 {
-    put(text, held, b"the captures agree\n")
+    text.put(b"the captures agree\n");
 }
 
 // `refused 8 NAME`
-pub fn refused_line(text: &mut [u8], held: usize, no: u8, name: &[u8]) -> usize
-    ensures { Puts (rule.refused_line no name.now) held result text.old text.new }
+#[tactic(auto, using(text::proofs::Filling::puts), unfolding(crate::specs::Lines::refused_line))]
+pub fn refused_line(text: &mut Text<'_>, no: u8, name: &[u8])
+    ensures { text.new ≡ put (rule.refused_line no name.now) text.old }
 {
-    let head = put(text, held, b"refused");
-    let n = number(text, head, no as u64);
-    let blank = byte(text, n, b' ');
-    let end = put(text, blank, name);
-    byte(text, end, b'\n')
+    text.put(b"refused");
+    text.number(no as u64);
+    text.byte(b' ');
+    text.put(name);
+    text.byte(b'\n');
 }

@@ -1,54 +1,15 @@
-// The first place at which two lists differ: an entry that is not the same, or the end of one alone.
-ghost use Rattle.std.specs.Prelude.{◌≡◌, min};
-ghost use Rattle.differences.specs.Places.{first_place};
+// The first place at which two lists differ, from 0: an entry that is not the same, or the end of one.
+ghost use Rattle.std.specs.Prelude.{◌≡◌};
+ghost use Rattle.differences.specs.Places.{first_by};
 
-#[derive(Clone, Copy)]
-pub enum Place {
-    // The place of the entry, from 0.
-    At(usize),
-    Nowhere,
-}
-
-// The smaller of two lengths.
-pub(crate) fn shorter(a: usize, b: usize) -> usize
-    ensures { result ≡ min a b }
+pub fn first_place<T: PartialEq + Copy>(a: &[T], b: &[T]) -> Option<usize>
+    ensures { result ≡ first_by T.eq 0 a.now b.now }
 {
-    if a < b {
-        return a;
-    }
-    b
-}
-
-pub fn first_byte(a: &[u8], b: &[u8]) -> Place
-    ensures { result ≡ first_place a.now b.now }
-{
-    let n = shorter(a.len(), b.len());
-    let mut i: usize = 0;
-    while i < n {
+    let n = a.len().min(b.len());
+    for i in 0..n {
         if a[i] != b[i] {
-            return Place::At(i);
+            return Some(i);
         }
-        i += 1;
     }
-    if a.len() == b.len() {
-        return Place::Nowhere;
-    }
-    Place::At(n)
-}
-
-pub fn first_number(a: &[u64], b: &[u64]) -> Place
-    ensures { result ≡ first_place a.now b.now }
-{
-    let n = shorter(a.len(), b.len());
-    let mut i: usize = 0;
-    while i < n {
-        if a[i] != b[i] {
-            return Place::At(i);
-        }
-        i += 1;
-    }
-    if a.len() == b.len() {
-        return Place::Nowhere;
-    }
-    Place::At(n)
+    if a.len() == b.len() { None } else { Some(n) }
 }

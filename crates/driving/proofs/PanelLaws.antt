@@ -1,10 +1,10 @@
 -- A panel driven row by row: the rows before are driven, and the next is driven from where they end.
 use mathlib.Core.Path.{◌≡◌, refl, sym, ap, ◌∙◌}
 use mathlib.Core.List.{List, [], ◌∷◌, ◌++◌, append-nil}
-use Prim.Native.Nat.{ℕ, ◌+◌, ◌-◌, ◌*◌, ◌≤◌}
+use Prim.Native.Nat.{ℕ, ◌+◌, ◌*◌, ◌≤◌}
 use native.Mathlib.Omega.{arith}
 use lib.IntN.{ℤ}
-use lib.ListN.{length, take, drop, length-drop, drop_of_length-le}
+use lib.ListN.{length, take, drop, drop_of_length-le}
 use lib.Seq.{take_all}
 use Rattle.base.specs.InTurn.{in_turn}
 use Rattle.base.specs.Listed.{listed}
@@ -25,14 +25,6 @@ module _ (ww kw wk kk : Transfer) where
       → states ≡ take at states ++ driven ww kw wk kk numbers (drop at states)
   driven_past at numbers states h =
       rw (take_all at states h, drop_of_length-le states h, driven_nothing numbers) (sym (append-nil states))
-
-  -- a part that was lent from a place to the end, and what comes back
-  pub driven_part : (at : ℕ) (numbers : List ℕ) (states part : List ℤ) → at ≤ length states
-      → part ≡ driven ww kw wk kk numbers (take (length states - at) (drop at states))
-      → take at states ++ (part ++ drop (length states - at) (drop at states)) ≡ take at states ++ driven ww kw wk kk numbers (drop at states)
-  driven_part at numbers states part h e =
-      let short : length (drop at states) ≤ length states - at = omega (arith, length-drop at states) in
-      rw (e, take_all (length states - at) (drop at states) short, drop_of_length-le (drop at states) short, append-nil (driven ww kw wk kk numbers (drop at states)))
 
   -- one row more
   pub driven_row : (f : ℕ → ℕ → ℕ) (w y : ℕ) (states₀ states driven' : List ℤ) (row row' : List ℕ) → w ≤ length row

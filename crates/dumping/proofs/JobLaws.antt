@@ -5,8 +5,9 @@ use Prim.Native.Nat.{ℕ}
 use native.Mathlib.Omega.{arith}
 use borrow.Author.Tests.{ne_eqb}
 use lib.ListN.{length}
+use Rattle.std.proofs.Common.{Some}
 use Rattle.base.specs.declared.refusals.Refusal.TheVariants as refusal
-use Rattle.base.specs.RefusalNumbers.{refusal_number}
+use Rattle.base.specs.RefusalNumbers.{number_of}
 use Rattle.controller.specs.World.{Buffers, world}
 use Rattle.controller.specs.Calls.{zeros}
 use Rattle.vcd.specs.Dump.{dump_refused}
@@ -25,12 +26,12 @@ unread_ran most longest b = record { config = []; dump = []; chip = zeros; came_
 
 -- a configuration of a wrong length is 8, tested first
 pub wrong_ran : (config : List ℕ) → (length config ≡ 312 → ⊥) → (most longest : ℕ) (b : Buffers)
-    → Ran (came.Judged refusal.BrokenCapture) most longest b b
+    → Ran (came.Judged (Some refusal.BrokenCapture)) most longest b b
 unfolding dump_refused
 wrong_ran config n most longest b =
     record { config = config; dump = []; chip = zeros; came_to = (rw (ne_eqb _ _ n), λ z. absurd (eight z)); kept = λ _. refl }
   where
-    eight : refusal_number refusal.BrokenCapture ≡ 0 → ⊥
+    eight : number_of (Some refusal.BrokenCapture) ≡ 0 → ⊥
     eight z = omega (arith, z)
 
 pub ran_most : {r : Came} {most most' longest : ℕ} {b u : Buffers} → most ≡ most' → Ran r most longest b u → Ran r most' longest b u

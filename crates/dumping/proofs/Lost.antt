@@ -1,11 +1,12 @@
 -- A dump that is malformed by what was read of it is malformed whatever follows: nothing is declared any more, and no word mends the
 -- syntax. So reading may stop there.
 use mathlib.Core.Path.{◌≡◌, refl, sym, ap, ◌∙◌}
-use mathlib.Core.Bool.{Bool, true, false, ◌||◌, ◌&&◌, not, true≢false}
-use mathlib.Core.List.{List, [], ◌∷◌, ◌++◌, append-nil, append_assoc}
-use Prim.Native.Nat.{ℕ, ◌≤◌}
-use lib.ListN.{length, take, drop}
+use mathlib.Core.Bool.{Bool, true, false, ◌&&◌, not, true≢false}
+use mathlib.Core.List.{List, [], ◌∷◌, ◌++◌, append_assoc}
+use Prim.Native.Nat.{ℕ}
+use lib.ListN.{take, drop}
 use lib.Seq.{drop-append-le}
+use Rattle.std.proofs.Common.{Err}
 use Rattle.base.specs.Pick.{pick}
 use Rattle.base.proofs.Cases.{by_cases}
 use Rattle.controller.specs.World.{World}
@@ -21,7 +22,7 @@ use Rattle.vcd_simulation.specs.declared.body.Body.{Body}
 use Rattle.vcd_simulation.specs.Simulation.{Codes, Went, begun, word_done, words_done, is_over}
 use Rattle.vcd_simulation.specs.Feed.{codes_by}
 use Rattle.vcd_simulation.proofs.StepLaws.{done_by_lem}
-use Rattle.vcd.specs.declared.judging.Judged.TheVariants as judge
+use Rattle.vcd.specs.declared.judging.Fault.TheVariants.{Malformed}
 use Rattle.vcd.specs.Dump.{judged}
 use Rattle.vcd.specs.Judging.{body_after, malformed_by, judged_by}
 use Rattle.vcd.proofs.WrittenBits.{done_join}
@@ -69,7 +70,7 @@ by_head b body e =
     (λ s. rw (p, q, s)))
     (λ q. rw (p, q)))
 
-malformed_judged : (b : Begun) (body : Body) → malformed_by b body ≡ true → judged_by b body ≡ judge.Malformed
+malformed_judged : (b : Begun) (body : Body) → malformed_by b body ≡ true → judged_by b body ≡ Err Malformed
 unfolding judged_by
 malformed_judged b body e = rw e
 
@@ -118,6 +119,6 @@ module _ (d : List ℕ) (r : Reader) (kept word : List ℕ) (w v : World) (g : P
       (ap (λ (t : Bool). pick t (is_broken r.body.wanted) true) (sym p) ∙ e))))
       (λ p. by_head r.begun last p)
 
-  pub lost_malformed : is_lost r ≡ true → judged (d ++ more) ≡ judge.Malformed
+  pub lost_malformed : is_lost r ≡ true → judged (d ++ more) ≡ Err Malformed
   lost_malformed e =
       sym (judged_is (d ++ more) r.begun all_begins last refl) ∙ malformed_judged r.begun last (last_malformed e)

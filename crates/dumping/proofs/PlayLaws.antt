@@ -1,63 +1,62 @@
--- A configuration's making and the verdict on a dump: which refusal they meet, and what is left without one; and the front of what is lent.
-use mathlib.Core.Path.{◌≡◌, refl, sym, ap, subst, ◌∙◌}
+-- A configuration's making and what a dump ends with: which refusal they meet, and what is left without one; and the front of what is lent.
+use mathlib.Core.Path.{◌≡◌, sym, ap, subst, ◌∙◌}
 use mathlib.Core.List.{List, ◌++◌, append-nil}
 use Prim.Native.Nat.{ℕ, ◌≤◌, min}
 use native.Mathlib.Decide.{dec_le}
 use native.Mathlib.Omega.{arith}
 use lib.Dec.{eqb}
+use lib.IntN.{ℤ}
 use lib.ListN.{length, take, drop, drop_of_length-le}
 use lib.Seq.{take_all, take-append_seam, length-take-le}
 use borrow.Author.Tests.{eqb-false}
+use Rattle.std.proofs.Common.{Option, Some, None, Ok, Err}
 use Rattle.base.specs.declared.refusals.Refusal.{Refusal}
-use Rattle.base.specs.declared.refusals.Refusal.TheVariants as refusal
-use Rattle.base.specs.RefusalNumbers.{refusal_number}
+use Rattle.base.specs.RefusalNumbers.{refusal_number, number_of}
 use Rattle.base.proofs.Cases.{by_cases}
+use Rattle.base.proofs.RefusalWords.{some_number}
 use Rattle.config.specs.declared.Uc8253Config.{Uc8253Config}
 use Rattle.capture.specs.Layout.{config_of, pixel_count}
+use Rattle.controller.specs.declared.Uc8253.{Uc8253}
 use Rattle.controller.specs.World.{World, Buffers, buffers, world}
-use Rattle.controller.specs.Calls.{zeros}
-use Rattle.controller.specs.declared.Answer.{Answer}
-use Rattle.vcd.specs.declared.judging.Judged.TheVariants as judge
-use Rattle.vcd_playing.specs.Making.{config_made, config_refused}
-use Rattle.vcd_playing.proofs.MakingLaws.{fine_yes, fine_no, eleven, twelve, fine}
-use Rattle.vcd_reading.specs.declared.closing.Ending.TheVariants as ending
+use Rattle.vcd.specs.declared.judging.Fault.{Fault}
+use Rattle.vcd.specs.declared.judging.Fault.TheVariants.{Malformed, Unsignalled}
+use Rattle.vcd.specs.Dump.{dump_events, dump_refused, judged}
+use Rattle.vcd.specs.Played.{calls, dump_played}
+use Rattle.vcd_playing.specs.Making.{config_made, config_refused, refusal_of}
+use Rattle.vcd_playing.proofs.MakingLaws.{fine_yes, fine_no, faulty, fine}
+use Rattle.vcd_reading.specs.declared.closing.Limit.TheVariants as limit
 use Rattle.showing.proofs.Fitted.{take_cut}
-use Rattle.dumping.specs.declared.reading.Verdict.{Verdict}
-use Rattle.dumping.specs.declared.reading.Verdict.TheVariants as verdict
 use Rattle.dumping.specs.declared.playing.Came.{Came}
 use Rattle.dumping.specs.declared.playing.Dumped.{Dumped}
-use Rattle.dumping.specs.Reading.{Tells}
+use Rattle.dumping.specs.Reading.{Ending, Tells}
 use Rattle.dumping.specs.Played.{came_by, CameTo, Dumps, panel_size, fitted}
 
-module _ (config : List ℕ) (whole : length config ≡ 312) (b : Buffers) (p : World) (made : Refusal) (ep : p ≡ config_made config b)
-    (em : refusal_number made ≡ config_refused config b) where
-  turned : Refusal → Answer
-  turned r = record { chip = zeros; refused = r }
-
-  fine_came : (d : List ℕ) (most longest : ℕ) (u : World) → Tells (verdict.Ended (ending.Judged judge.Fine)) d most longest p u
-      → CameTo (came_by (verdict.Ended (ending.Judged judge.Fine)) made) config d most longest b u
-  fine_came d most longest u t =
+module _ (config : List ℕ) (whole : length config ≡ 312) (b : Buffers) (p : World) (made : Option Refusal) (ep : p ≡ config_made config b)
+    (em : number_of made ≡ config_refused config b) where
+  fine_came : (d : List ℕ) (u : World) → judged d ≡ Ok tt → u ≡ calls (dump_events d) p
+      → (number_of made ≡ dump_refused config d b) × (number_of made ≡ 0 → u ≡ dump_played config d b)
+  fine_came d u t e =
       by_cases (eqb (config_refused config b) 0)
-      (λ z. let m = fine config d b whole judge.Fine (sym t.0) u made refl (fine_yes config d b u made p (ep, em) z t.1) in
-      (m.1, λ _. m.0))
-      (λ z. let m = fine config d b whole judge.Fine (sym t.0) p made refl (fine_no config d b p made (ep, em) z) in
-      (m.1, λ e. absurd (eqb-false (config_refused config b) 0 z (sym em ∙ e))))
+      (λ z. let m = fine config d b whole t (fine_yes config d b p (ep, em) z e) in (m.1, λ _. m.0))
+      (λ z. let m = fine config d b whole t (fine_no config d b (ep, em) z) in
+      (m.1, λ x. absurd (eqb-false (config_refused config b) 0 z (sym em ∙ x))))
 
-  pub came_to : (v : Verdict) (d : List ℕ) (most longest : ℕ) (u : World) → Tells v d most longest p u
+  -- 11 and 12
+  faulty_came : (x : Fault) (d : List ℕ) (u : World) → judged d ≡ Err x
+      → (refusal_number (refusal_of x) ≡ dump_refused config d b) × (refusal_number (refusal_of x) ≡ 0 → u ≡ dump_played config d b)
+  faulty_came x d u t =
+      ((faulty config d b whole x t).1, λ e. absurd (eqb-false (refusal_number (refusal_of x)) 0 (some_number (refusal_of x)) e))
+
+  pub came_to : (v : Option Ending) (d : List ℕ) (most longest : ℕ) (u : World) → Tells v d most longest p u
       → CameTo (came_by v made) config d most longest b u
-  unfolding turned
-  came_to (verdict.Ended (ending.Judged judge.Fine)) d most longest u t = fine_came d most longest u t
-  came_to (verdict.Ended (ending.Judged judge.Malformed)) d most longest u t =
-      let m = eleven config d b whole judge.Malformed (sym t) (turned refusal.MalformedDump) (record { chip_is = refl; refused_is = refl }) refl in
-      (m.1, λ e. absurd (omega (arith, e)))
-  came_to (verdict.Ended (ending.Judged judge.Unsignalled)) d most longest u t =
-      let m = twelve config d b whole judge.Unsignalled (sym t) (turned refusal.WrongSignals) (record { chip_is = refl; refused_is = refl }) refl in
-      (m.1, λ e. absurd (omega (arith, e)))
-  came_to (verdict.Ended ending.HeadTooLong) d most longest u t = t
-  came_to (verdict.Ended ending.WordTooLong) d most longest u t = t
-  came_to verdict.Unread d most longest u t = tt
+  came_to (Some (Ok (Ok x))) d most longest u t = fine_came d u t.0 t.1
+  came_to (Some (Ok (Err Malformed))) d most longest u t = faulty_came Malformed d u t
+  came_to (Some (Ok (Err Unsignalled))) d most longest u t = faulty_came Unsignalled d u t
+  came_to (Some (Err limit.HeadTooLong)) d most longest u t = t
+  came_to (Some (Err limit.WordTooLong)) d most longest u t = t
+  came_to None d most longest u t = tt
 
-  pub came_as : (x : Came) (v : Verdict) (d : List ℕ) (most longest : ℕ) (u : World) → x ≡ came_by v made → Tells v d most longest p u
+  pub came_as : (x : Came) (v : Option Ending) (d : List ℕ) (most longest : ℕ) (u : World) → x ≡ came_by v made → Tells v d most longest p u
       → CameTo x config d most longest b u
   came_as x v d most longest u e t = subst (λ (y : Came). CameTo y config d most longest b u) (sym e) (came_to v d most longest u t)
 
@@ -108,3 +107,9 @@ module _ (config : List ℕ) (b : Buffers) (p n q : ℕ) (ep : p ≡ panel_size 
 pub size_is : (config : List ℕ) (c : Uc8253Config) (n : ℕ) → c ≡ config_of config 0 → n ≡ pixel_count c → n ≡ panel_size config
 unfolding panel_size
 size_is config c n e h = h ∙ ap pixel_count e
+
+-- what is left in each slice that a struct held
+pub dumps_in : {x : Dumped} {config : List ℕ} {most longest : ℕ} {b : Buffers} {c : Uc8253} {o o₂ n n₂ p p₂ r r₂ : List ℕ} {s s₂ : List ℤ}
+    → o ≡ o₂ → n ≡ n₂ → s ≡ s₂ → p ≡ p₂ → r ≡ r₂
+    → Dumps x config most longest b (world c (buffers o₂ n₂ s₂ p₂ r₂)) → Dumps x config most longest b (world c (buffers o n s p r))
+dumps_in o n s p r d = rw (o, n, s, p, r) d

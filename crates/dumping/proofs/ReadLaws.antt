@@ -1,4 +1,4 @@
--- A dump read piece by piece: each piece lies behind what was read before it; and what the verdict says of all of it.
+-- A dump read piece by piece: each piece lies behind what was read before it; and what its ending says of all of it.
 use mathlib.Core.Path.{◌≡◌, refl, sym, ap, subst, ◌∙◌}
 use mathlib.Core.Bool.{Bool, true, false, true≢false}
 use mathlib.Core.List.{List, [], ◌++◌, append-nil, append_assoc}
@@ -8,24 +8,21 @@ use lib.ListN.{length, take, drop}
 use lib.Seq.{take-add}
 use Rattle.base.proofs.Cases.{by_cases}
 use Rattle.base.specs.Pick.{pick}
+use Rattle.std.specs.Prelude.{Option, Some, Result, Ok, Err}
 use Rattle.controller.specs.declared.Uc8253.{Uc8253}
 use Rattle.controller.specs.World.{World, Buffers, world}
-use Rattle.vcd.specs.declared.judging.Judged.{Judged}
-use Rattle.vcd.specs.declared.judging.Judged.TheVariants as judge
+use Rattle.vcd.specs.declared.judging.Fault.{Fault}
 use Rattle.vcd.specs.Dump.{dump_events, judged}
 use Rattle.vcd.specs.Played.{calls}
 use Rattle.vcd_reading.specs.declared.reader.Stage.{Stage}
 use Rattle.vcd_reading.specs.declared.reader.Stage.TheVariants as stage
 use Rattle.vcd_reading.specs.declared.reader.Reader.{Reader}
 use Rattle.vcd_reading.specs.declared.closing.Closed as reading
-use Rattle.vcd_reading.specs.declared.closing.Ending.TheVariants as ending
 use Rattle.vcd_reading.specs.Reading.{Stands, StandsBy, Closes}
 use Rattle.dumping.specs.declared.reading.Course.{Course}
 use Rattle.dumping.specs.declared.reading.Course.TheVariants as course
 use Rattle.dumping.specs.declared.reading.Gone.{Gone}
-use Rattle.dumping.specs.declared.reading.Verdict.{Verdict}
-use Rattle.dumping.specs.declared.reading.Verdict.TheVariants as verdict
-use Rattle.dumping.specs.Reading.{is_on, is_lost, settled_in, is_settled, course_of, Steps, Plays, Begins, ended, last_of, is_stopped, Stood, settled_ending, stopped_verdict, Tells}
+use Rattle.dumping.specs.Reading.{is_on, settled_in, is_settled, course_of, Steps, Plays, Begins, ended, last_of, is_stopped, Stood, Ending, settled_ending, stopped_ending, Tells}
 use Rattle.dumping.proofs.Lost.{lost_malformed}
 
 -- ---- the pieces of a chunk
@@ -127,42 +124,41 @@ pub stood_from : (p x : Uc8253) (q : Gone) (kept word : List ℕ) (b : Buffers) 
     → Stood q kept word (world p b) v
 stood_from p x q kept word b v e s = subst (λ (y : Uc8253). Stood q kept word (world y b) v) e s
 
--- ---- the verdict
-tells_judged : (j : Judged) (d : List ℕ) (most longest : ℕ) (w u : World) → j ≡ judged d → u ≡ calls (dump_events d) w
-    → Tells (verdict.Ended (ending.Judged j)) d most longest w u
-tells_judged judge.Fine d most longest w u e c = (sym e, c)
-tells_judged judge.Malformed d most longest w u e c = sym e
-tells_judged judge.Unsignalled d most longest w u e c = sym e
+-- ---- how it ended
+tells_judged : (j : Result (Unit {0}) Fault) (d : List ℕ) (most longest : ℕ) (w u : World) → j ≡ judged d → u ≡ calls (dump_events d) w
+    → Tells (Some (Ok j)) d most longest w u
+tells_judged (Ok x) d most longest w u e c = (sym e, c)
+tells_judged (Err x) d most longest w u e c = sym e
 
-tells_as : (d : List ℕ) (most longest : ℕ) (w u : World) {x y : Verdict} → x ≡ y → Tells y d most longest w u → Tells x d most longest w u
-tells_as d most longest w u e t = subst (λ (z : Verdict). Tells z d most longest w u) (sym e) t
+tells_as : (d : List ℕ) (most longest : ℕ) (w u : World) {x y : Option Ending} → x ≡ y → Tells y d most longest w u → Tells x d most longest w u
+tells_as d most longest w u e t = subst (λ (z : Option Ending). Tells z d most longest w u) (sym e) t
 
 closed_by : (x : Stage) (d : List ℕ) (r : Reader) (kept word : List ℕ) (w v u : World) (c : reading.Closed)
-    → StandsBy x d r kept word w v → Closes x d c w v u → Tells (verdict.Ended c.ending) d (length kept) (length word) w u
-closed_by stage.Heading d r kept word w v u c s k = tells_as d _ _ w u (ap verdict.Ended k.0) (tells_judged (judged d) d _ _ w u refl k.1)
-closed_by stage.Playing d r kept word w v u c s k = tells_as d _ _ w u (ap verdict.Ended k.0) (tells_judged (judged d) d _ _ w u refl k.1)
-closed_by stage.HeadTooLong d r kept word w v u c s k = tells_as d _ _ w u (ap verdict.Ended k.0) s
-closed_by stage.WordTooLong d r kept word w v u c s k = tells_as d _ _ w u (ap verdict.Ended k.0) s
+    → StandsBy x d r kept word w v → Closes x d c w v u → Tells (Some c.ending) d (length kept) (length word) w u
+closed_by stage.Heading d r kept word w v u c s k = tells_as d _ _ w u (ap Some k.0) (tells_judged (judged d) d _ _ w u refl k.1)
+closed_by stage.Playing d r kept word w v u c s k = tells_as d _ _ w u (ap Some k.0) (tells_judged (judged d) d _ _ w u refl k.1)
+closed_by stage.HeadTooLong d r kept word w v u c s k = tells_as d _ _ w u (ap Some k.0) s
+closed_by stage.WordTooLong d r kept word w v u c s k = tells_as d _ _ w u (ap Some k.0) s
 
 pub closed_tells : (d : List ℕ) (r : Reader) (kept word : List ℕ) (w v u : World) (c : reading.Closed)
-    → Stands d r kept word w v → Closes r.stage d c w v u → Tells (verdict.Ended c.ending) d (length kept) (length word) w u
+    → Stands d r kept word w v → Closes r.stage d c w v u → Tells (Some c.ending) d (length kept) (length word) w u
 closed_tells d r kept word w v u c s k = closed_by r.stage d r kept word w v u c s k
 
 settled_by : (x : Stage) (d : List ℕ) (r : Reader) (kept word : List ℕ) (w v u : World) → StandsBy x d r kept word w v
-    → settled_in x r ≡ true → Tells (verdict.Ended (settled_ending x)) d (length kept) (length word) w u
+    → settled_in x r ≡ true → Tells (Some (settled_ending x)) d (length kept) (length word) w u
 settled_by stage.Heading d r kept word w v u s e = absurd (true≢false (sym e))
 settled_by stage.Playing d r kept word w v u s e = ap judged (sym (append-nil d)) ∙ lost_malformed d r kept word w v s [] e
 settled_by stage.HeadTooLong d r kept word w v u s e = s
 settled_by stage.WordTooLong d r kept word w v u s e = s
 
 stopped_by : (x : Course) (d : List ℕ) (r : Reader) (kept word : List ℕ) (w v : World) → Stands d r kept word w v
-    → (is_stopped x ≡ true → is_settled r ≡ true) → Tells (stopped_verdict x r.stage) d (length kept) (length word) w v
+    → (is_stopped x ≡ true → is_settled r ≡ true) → Tells (stopped_ending x r.stage) d (length kept) (length word) w v
 stopped_by course.On d r kept word w v s e = tt
 stopped_by course.Whole d r kept word w v s e = tt
 stopped_by course.Settled d r kept word w v s e = settled_by r.stage d r kept word w v v s (e refl)
 stopped_by course.Unread d r kept word w v s e = tt
 
-pub stopped_tells : (g : Gone) (kept word : List ℕ) (w v : World) (t : Verdict) (s : Stood g kept word w v)
-    → t ≡ stopped_verdict g.course g.reader.stage → Tells t s.dump (length kept) (length word) w v
+pub stopped_tells : (g : Gone) (kept word : List ℕ) (w v : World) (t : Option Ending) (s : Stood g kept word w v)
+    → t ≡ stopped_ending g.course g.reader.stage → Tells t s.dump (length kept) (length word) w v
 stopped_tells g kept word w v t s e =
     tells_as s.dump _ _ w v e (stopped_by g.course s.dump g.reader kept word w v s.stands s.settled)

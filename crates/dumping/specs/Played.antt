@@ -1,40 +1,39 @@
 -- A configuration and a dump, read piece by piece and played as it is read: what they come to.
-use Rattle.std.specs.Prelude.{◌≡◌, List, ℕ, length, take}
+use Rattle.std.specs.Prelude.{◌≡◌, List, ℕ, length, take, Option, Some, None, Result, Ok, Err}
 use Rattle.base.specs.declared.refusals.Refusal.{Refusal}
 use Rattle.base.specs.declared.refusals.Refusal.TheVariants as refusal
-use Rattle.base.specs.RefusalNumbers.{refusal_number}
+use Rattle.base.specs.RefusalNumbers.{number_of}
 use Rattle.capture.specs.Layout.{config_of, pixel_count}
 use Rattle.controller.specs.declared.Uc8253.{Uc8253}
 use Rattle.controller.specs.World.{World, Buffers, buffers, world}
-use Rattle.vcd.specs.declared.judging.Judged.{Judged}
-use Rattle.vcd.specs.declared.judging.Judged.TheVariants as judge
+use Rattle.vcd.specs.declared.judging.Fault.{Fault}
+use Rattle.vcd.specs.declared.judging.Fault.TheVariants.{Malformed, Unsignalled}
 use Rattle.vcd.specs.Dump.{dump_refused}
 use Rattle.vcd.specs.Played.{dump_played}
-use Rattle.vcd_reading.specs.declared.closing.Ending.TheVariants as ending
+use Rattle.vcd_reading.specs.declared.closing.Limit.TheVariants as limit
 use Rattle.vcd_reading.specs.Reading.{LongHead, LongWord}
-use Rattle.dumping.specs.declared.reading.Verdict.{Verdict}
-use Rattle.dumping.specs.declared.reading.Verdict.TheVariants as verdict
 use Rattle.dumping.specs.declared.playing.Came.{Came}
 use Rattle.dumping.specs.declared.playing.Came.TheVariants as came
 use Rattle.dumping.specs.declared.playing.Dumped.{Dumped}
+use Rattle.dumping.specs.Reading.{Ending}
 
 -- 11 and 12 come before what turns the configuration back
-abbrev pub refusal_by : Judged → Refusal → Refusal
-refusal_by judge.Fine made = made
-refusal_by judge.Malformed made = refusal.MalformedDump
-refusal_by judge.Unsignalled made = refusal.WrongSignals
+abbrev pub refusal_by : Result (Unit {0}) Fault → Option Refusal → Option Refusal
+refusal_by (Ok fine) made = made
+refusal_by (Err Malformed) made = Some refusal.MalformedDump
+refusal_by (Err Unsignalled) made = Some refusal.WrongSignals
 
-abbrev pub came_by : Verdict → Refusal → Came
-came_by (verdict.Ended (ending.Judged j)) made = came.Judged (refusal_by j made)
-came_by (verdict.Ended ending.HeadTooLong) made = came.HeadTooLong
-came_by (verdict.Ended ending.WordTooLong) made = came.WordTooLong
-came_by verdict.Unread made = came.Unread
+abbrev pub came_by : Option Ending → Option Refusal → Came
+came_by (Some (Ok judged)) made = came.Judged (refusal_by judged made)
+came_by (Some (Err limit.HeadTooLong)) made = came.HeadTooLong
+came_by (Some (Err limit.WordTooLong)) made = came.WordTooLong
+came_by None made = came.Unread
 
 -- of the bytes d that were read: the refusal that they and the configuration meet, and without one what the calls leave; or the limit that
 -- was met
 abbrev pub CameTo : Came → List ℕ → List ℕ → ℕ → ℕ → Buffers → World → Type 0
 CameTo (came.Judged refused) config d most longest b u =
-    (refusal_number refused ≡ dump_refused config d b) × (refusal_number refused ≡ 0 → u ≡ dump_played config d b)
+    (number_of refused ≡ dump_refused config d b) × (number_of refused ≡ 0 → u ≡ dump_played config d b)
 CameTo came.HeadTooLong config d most longest b u = LongHead d most
 CameTo came.WordTooLong config d most longest b u = LongWord d longest
 CameTo came.Unread config d most longest b u = Unit

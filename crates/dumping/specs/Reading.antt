@@ -1,9 +1,10 @@
 -- A dump read piece by piece: how far that got, and where the reader stands.
-use Rattle.std.specs.Prelude.{◌≡◌, Bool, true, false, List, [], ◌++◌, ℕ, take}
+use Rattle.std.specs.Prelude.{◌≡◌, Bool, true, false, List, [], ◌++◌, ℕ, take, Option, Some, None, Result, Ok, Err}
 use Rattle.base.specs.Pick.{pick}
 use Rattle.controller.specs.declared.Uc8253.{Uc8253}
 use Rattle.controller.specs.World.{World}
-use Rattle.vcd.specs.declared.judging.Judged.TheVariants as judge
+use Rattle.vcd.specs.declared.judging.Fault.{Fault}
+use Rattle.vcd.specs.declared.judging.Fault.TheVariants.{Malformed}
 use Rattle.vcd.specs.Dump.{dump_events, judged}
 use Rattle.vcd.specs.Played.{calls}
 use Rattle.vcd_reasons.specs.Finding.{is_broken}
@@ -11,15 +12,13 @@ use Rattle.vcd_reasons.specs.Wording.{is_declared_well}
 use Rattle.vcd_reading.specs.declared.reader.Stage.{Stage}
 use Rattle.vcd_reading.specs.declared.reader.Stage.TheVariants as stage
 use Rattle.vcd_reading.specs.declared.reader.Reader.{Reader}
-use Rattle.vcd_reading.specs.declared.closing.Ending.{Ending}
-use Rattle.vcd_reading.specs.declared.closing.Ending.TheVariants as ending
+use Rattle.vcd_reading.specs.declared.closing.Limit.{Limit}
+use Rattle.vcd_reading.specs.declared.closing.Limit.TheVariants as limit
 use Rattle.vcd_reading.specs.Reading.{LongHead, LongWord, Stands}
 use Rattle.dumping.specs.declared.reading.Course.{Course}
 use Rattle.dumping.specs.declared.reading.Course.TheVariants as course
 use Rattle.dumping.specs.declared.reading.Gone.{Gone}
 use Rattle.dumping.specs.declared.reading.Closed.{Closed}
-use Rattle.dumping.specs.declared.reading.Verdict.{Verdict}
-use Rattle.dumping.specs.declared.reading.Verdict.TheVariants as verdict
 
 abbrev pub is_on : Course → Bool
 is_on course.On = true
@@ -63,7 +62,7 @@ pub record Begins (chip : Uc8253) (q : Gone) : Type 0 where
   pub on : is_on q.course ≡ true
 
 abbrev pub ended : Course → Gone → Gone
-ended x g = record { chip = g.chip; reader = g.reader; lines = g.lines; told = g.told; course = x }
+ended x g = record { chip = g.chip; reader = g.reader; lines = g.lines; course = x }
 
 -- the input ended with a chunk, unless what follows does not count
 unfoldable pub last_of : Bool → Gone → Gone
@@ -88,28 +87,32 @@ is_open course.Whole = true
 is_open course.Settled = false
 is_open course.Unread = false
 
+-- what a dump that was read to its end comes to, or the limit that was met
+abbrev pub Ending : Type 0
+Ending = Result (Result (Unit {0}) Fault) Limit
+
 -- reading stopped before the end
 abbrev pub settled_ending : Stage → Ending
-settled_ending stage.Heading = ending.Judged judge.Malformed
-settled_ending stage.Playing = ending.Judged judge.Malformed
-settled_ending stage.HeadTooLong = ending.HeadTooLong
-settled_ending stage.WordTooLong = ending.WordTooLong
+settled_ending stage.Heading = Ok (Err Malformed)
+settled_ending stage.Playing = Ok (Err Malformed)
+settled_ending stage.HeadTooLong = Err limit.HeadTooLong
+settled_ending stage.WordTooLong = Err limit.WordTooLong
 
-abbrev pub stopped_verdict : Course → Stage → Verdict
-stopped_verdict course.On x = verdict.Unread
-stopped_verdict course.Whole x = verdict.Unread
-stopped_verdict course.Settled x = verdict.Ended (settled_ending x)
-stopped_verdict course.Unread x = verdict.Unread
+abbrev pub stopped_ending : Course → Stage → Option Ending
+stopped_ending course.On x = None
+stopped_ending course.Whole x = None
+stopped_ending course.Settled x = Some (settled_ending x)
+stopped_ending course.Unread x = None
 
--- what a verdict says of the bytes that were read: what they come to, and their calls made; or the limit that was met
-abbrev pub Tells : Verdict → List ℕ → ℕ → ℕ → World → World → Type 0
-Tells (verdict.Ended (ending.Judged judge.Fine)) d most longest w u = (judged d ≡ judge.Fine) × (u ≡ calls (dump_events d) w)
-Tells (verdict.Ended (ending.Judged judge.Malformed)) d most longest w u = judged d ≡ judge.Malformed
-Tells (verdict.Ended (ending.Judged judge.Unsignalled)) d most longest w u = judged d ≡ judge.Unsignalled
-Tells (verdict.Ended ending.HeadTooLong) d most longest w u = LongHead d most
-Tells (verdict.Ended ending.WordTooLong) d most longest w u = LongWord d longest
-Tells verdict.Unread d most longest w u = Unit
+-- what an ending says of the bytes that were read: what they come to, and their calls made; or the limit that was met; none where a read
+-- failed
+abbrev pub Tells : Option Ending → List ℕ → ℕ → ℕ → World → World → Type 0
+Tells (Some (Ok (Ok fine))) d most longest w u = (judged d ≡ Ok tt) × (u ≡ calls (dump_events d) w)
+Tells (Some (Ok (Err x))) d most longest w u = judged d ≡ Err x
+Tells (Some (Err limit.HeadTooLong)) d most longest w u = LongHead d most
+Tells (Some (Err limit.WordTooLong)) d most longest w u = LongWord d longest
+Tells None d most longest w u = Unit
 
 pub record Read (c : Closed) (most longest : ℕ) (w u : World) : Type 0 where
   pub dump : List ℕ
-  pub tells : Tells c.verdict dump most longest w u
+  pub tells : Tells c.ending dump most longest w u

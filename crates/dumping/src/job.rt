@@ -1,15 +1,15 @@
 // One job: the panel of a configuration after a dump.
-ghost use Rattle.std.specs.Prelude.{◌≡◌, ◌≤◌, length};
-ghost use Rattle.controller.specs.Lent.{before, after};
+ghost use Rattle.std.specs.Prelude.{◌≡◌, length};
+ghost use Rattle.controller.specs.Lent.{before, after, Keeps};
 ghost use Rattle.dumping.specs.Played.{Ran};
 
 use crate::playing::{Came, play};
-use crate::telling::{bad_config, bad_dump, no_config, say};
+use crate::telling::{ROOM, bad_config, bad_dump, no_config, say};
 use crate::writing::write;
 use base::Refusal;
 use capture::{config_of, pixels};
-use controller::Uc8253;
-use files::{Got, Stream, is_input, open_read, tell};
+use controller::{Lent, Uc8253};
+use files::{Stream, is_input, open_read, tell};
 use input::front;
 use outcome::came_by;
 use output::{Form, Outcome};
@@ -17,6 +17,7 @@ use shades::Tone;
 use std::io;
 use std::io::{Read, Write};
 use std::rt::Files;
+use text::Text;
 use uc8253::zeros;
 
 // The bytes of a configuration; and one more, so that a larger file is seen to be larger.
@@ -27,74 +28,70 @@ const CONFIG_ROOM: usize = 313;
 // What keeps the declarations and a word behind them.
 const KEPT: usize = 1_048_576;
 
+// The names of the configuration and the dump; what is written of the panel, and the name of where to.
+#[derive(Clone, Copy)]
+struct Job<'a> {
+    config_name: &'a [u8],
+    name: &'a [u8],
+    tone: Tone,
+    out: &'a [u8],
+}
+
+// What is written of a record, by the number of what turned it back, 0 for none.
+fn outcome(number: u8, p: Uc8253) -> Outcome {
+    Outcome {
+        came: came_by(number),
+        log: p.log,
+        image: p.image,
+    }
+}
+
 // `refused` and the number, on standard output.
 fn refuse<R: Print + Eprint>(rt: &R, refused: Refusal) {
-    let rows = [0u64; 1];
-    let p = zeros();
-    let came = came_by(refused.number());
-    let log = p.log;
-    let image = p.image;
-    let o = Outcome { came, log, image };
+    let o = outcome(refused.number(), zeros());
     let mut to = io::writer(rt);
-    if let Err(error) = write(Form::Lines, &mut to, o, b"", &rows) {
+    if let Err(error) = write(Form::Lines, &mut to, o, b"", &[0]) {
         tell(rt, b"standard output", error);
     }
 }
 
-// The lines, or the picture, at a top of its own or as it is.
+// The lines, or the picture, at a top of its own or as it is; the panel has the front of what is lent.
 fn write_by<W: Write>(
     tone: Tone,
     to: &mut W,
+    config: &[u8],
     p: Uc8253,
-    states: &[i64],
-    picture: &[u8],
-    rows: &[u64],
+    lent: &Lent<'_>,
 ) -> io::Result<()> {
-    let form = tone.form;
-    if tone.wide {
-        return shades::write(form, tone.top, to, p, states);
+    let count = pixels(config_of(config));
+    if let Some(top) = tone.top {
+        return shades::write(tone.form, top, to, p, front(lent.states, count));
     }
-    let came = came_by(0);
-    let log = p.log;
-    let image = p.image;
-    let o = Outcome { came, log, image };
-    write(form, to, o, picture, rows)
+    let o = outcome(0, p);
+    write(tone.form, to, o, front(lent.picture, count), lent.rows)
 }
 
 // The panel after a dump that is not turned back; its output is made only here.
 fn show<R: Files + Print + Eprint>(
     rt: &R,
-    out: &[u8],
-    tone: Tone,
+    job: Job<'_>,
+    config: &[u8],
     p: Uc8253,
-    states: &[i64],
-    picture: &[u8],
-    rows: &[u64],
+    lent: &Lent<'_>,
 ) {
-    match files::open(rt, out) {
-        None => {}
-        Some(mut to) => {
-            let written = write_by(tone, &mut to, p, states, picture, rows);
-            files::close(rt, out, to, written);
-        }
+    if let Some(mut to) = files::open(rt, job.out) {
+        let written = write_by(job.tone, &mut to, config, p, lent);
+        files::close(rt, job.out, to, written);
     }
 }
 
 // 11 and 12 are of the dump, the others of the configuration.
-fn turn_back<R: Print + Eprint>(
-    rt: &R,
-    config_name: &[u8],
-    name: &[u8],
-    config: &[u8],
-    refused: Refusal,
-    why: &[u8],
-) {
+fn turn_back<R: Print + Eprint>(rt: &R, job: Job<'_>, config: &[u8], refused: Refusal, why: &[u8]) {
     refuse(rt, refused);
-    if 10 < refused.number() {
-        bad_dump(rt, name, refused, why);
-        return;
+    match refused {
+        Refusal::MalformedDump | Refusal::WrongSignals => bad_dump(rt, job.name, refused, why),
+        _ => bad_config(rt, job.config_name, config, refused),
     }
-    bad_config(rt, config_name, config, refused);
 }
 
 // The input of that name.
@@ -137,181 +134,95 @@ fn called(name: &[u8]) -> &[u8] {
 // What a configuration and a dump came to.
 fn answer<R: Files + Print + Eprint>(
     rt: &R,
+    job: Job<'_>,
     came: Came,
-    config_name: &[u8],
-    name: &[u8],
     config: &[u8],
     why: &[u8],
-    tone: Tone,
-    out: &[u8],
     p: Uc8253,
-    states: &[i64],
-    picture: &[u8],
-    rows: &[u64],
+    lent: &Lent<'_>,
 ) {
     match came {
-        Came::Judged(refused) => {
-            if refused.none() {
-                show(rt, out, tone, p, states, picture, rows);
-                return;
-            }
-            turn_back(rt, config_name, name, config, refused, why);
-        }
+        Came::Judged(None) => show(rt, job, config, p, lent),
+        Came::Judged(Some(refused)) => turn_back(rt, job, config, refused, why),
         Came::HeadTooLong => say(
             rt,
-            name,
+            job.name,
             b"the declarations and a word behind them have more than 1,048,576 bytes: not read",
         ),
-        Came::WordTooLong => say(rt, name, b"a word has more than 65,537 bytes: not read"),
+        Came::WordTooLong => say(rt, job.name, b"a word has more than 65,537 bytes: not read"),
         // a read that failed was said where it failed
         Came::Unread => {}
     }
 }
 
-// So many entries of those that there are.
-fn room(most: usize, have: usize) -> usize
-    ensures { result ≤ have }
-{
-    if most < have { most } else { have }
-}
-
 // A dump that is open.
 fn with_dump<R: Files + Print + Eprint, I: Read>(
     rt: &R,
-    config_name: &[u8],
-    name: &[u8],
+    job: Job<'_>,
     config: &[u8],
     input: &mut I,
-    tone: Tone,
-    out: &[u8],
     chunk: &mut [u8],
     word: &mut [u8],
     kept: &mut [u8],
-    old: &mut [u8],
-    new: &mut [u8],
-    states: &mut [i64],
-    picture: &mut [u8],
-    rows: &mut [u64],
+    lent: &mut Lent<'_>,
 ) -> Came
     requires { length config.now ≡ 312 }
-    ensures { Ran result (length kept.new) (length word.new)
-        (before old new states picture rows) (after old new states picture rows) }
+    ensures ran { Ran result (length kept.new) (length word.new) (before lent) (after lent) }
+    ensures same { Keeps lent }
 {
-    let mut text = [0u8; 256];
-    let d = play(
-        config, input, chunk, &mut text, kept, word, old, new, states, picture, rows,
-    );
-    let came = d.came;
-    let chip = d.chip;
-    let why = front(&text, d.told);
-    let count = pixels(config_of(config));
-    let shown = front(picture, count);
-    answer(
-        rt,
-        came,
-        config_name,
-        name,
-        config,
-        why,
-        tone,
-        out,
-        chip,
-        &states[..room(count, states.len())],
-        shown,
-        rows,
-    );
-    came
+    let mut buffer = [0u8; ROOM];
+    let mut why = Text::new(&mut buffer);
+    let d = play(config, input, chunk, &mut why, kept, word, lent);
+    answer(rt, job, d.came, config, why.written(), d.chip, lent);
+    d.came
 }
 
 // What keeps the declarations is lent here.
 fn with_kept<R: Files + Print + Eprint, I: Read>(
     rt: &R,
-    config_name: &[u8],
-    name: &[u8],
+    job: Job<'_>,
     config: &[u8],
     input: &mut I,
-    tone: Tone,
-    out: &[u8],
     chunk: &mut [u8],
     word: &mut [u8],
-    old: &mut [u8],
-    new: &mut [u8],
-    states: &mut [i64],
-    picture: &mut [u8],
-    rows: &mut [u64],
+    lent: &mut Lent<'_>,
 ) -> Came
     requires { length config.now ≡ 312 }
-    ensures { Ran result 1_048_576 (length word.new)
-        (before old new states picture rows) (after old new states picture rows) }
+    ensures ran { Ran result 1_048_576 (length word.new) (before lent) (after lent) }
+    ensures same { Keeps lent }
 {
     let mut kept = [0u8; KEPT];
-    with_dump(
-        rt,
-        config_name,
-        name,
-        config,
-        input,
-        tone,
-        out,
-        chunk,
-        word,
-        &mut kept,
-        old,
-        new,
-        states,
-        picture,
-        rows,
-    )
+    with_dump(rt, job, config, input, chunk, word, &mut kept, lent)
 }
 
 // A configuration of the right length.
 fn with_config<R: Files + io::Input + Print + Eprint>(
     rt: &R,
-    config_name: &[u8],
-    name: &[u8],
+    job: Job<'_>,
     config: &[u8],
-    tone: Tone,
-    out: &[u8],
     chunk: &mut [u8],
     word: &mut [u8],
-    old: &mut [u8],
-    new: &mut [u8],
-    states: &mut [i64],
-    picture: &mut [u8],
-    rows: &mut [u64],
+    lent: &mut Lent<'_>,
 ) -> Came
     requires { length config.now ≡ 312 }
-    ensures { Ran result 1_048_576 (length word.new)
-        (before old new states picture rows) (after old new states picture rows) }
+    ensures ran { Ran result 1_048_576 (length word.new) (before lent) (after lent) }
+    ensures same { Keeps lent }
 {
-    let input = match open(rt, name) {
-        Ok(input) => input,
+    let name = job.name;
+    match open(rt, name) {
+        Ok(input) => {
+            let mut told = Told {
+                rt,
+                name: called(name),
+                input,
+            };
+            with_kept(rt, job, config, &mut told, chunk, word, lent)
+        }
         Err(error) => {
             tell(rt, name, error);
-            return Came::Unread;
+            Came::Unread
         }
-    };
-    let mut told = Told {
-        rt,
-        name: called(name),
-        input,
-    };
-    with_kept(
-        rt,
-        config_name,
-        name,
-        config,
-        &mut told,
-        tone,
-        out,
-        chunk,
-        word,
-        old,
-        new,
-        states,
-        picture,
-        rows,
-    )
+    }
 }
 
 // The configuration and the dump of these names; `-` is standard input. A configuration of a wrong
@@ -324,41 +235,26 @@ pub fn run<R: Files + io::Input + Print + Eprint>(
     out: &[u8],
     chunk: &mut [u8],
     word: &mut [u8],
-    old: &mut [u8],
-    new: &mut [u8],
-    states: &mut [i64],
-    picture: &mut [u8],
-    rows: &mut [u64],
+    lent: &mut Lent<'_>,
 ) -> Came
-    ensures { Ran result 1_048_576 (length word.new)
-        (before old new states picture rows) (after old new states picture rows) }
+    ensures ran { Ran result 1_048_576 (length word.new) (before lent) (after lent) }
+    ensures same { Keeps lent }
 {
     let mut config = [0u8; CONFIG_ROOM];
-    let got = files::read(rt, config_name, &mut config);
-    match got {
-        Got::Bytes(n, bytes) => {
-            let c = front(&config, n);
-            if c.len() == CONFIG {
-                return with_config(
-                    rt,
-                    config_name,
-                    name,
-                    c,
-                    tone,
-                    out,
-                    chunk,
-                    word,
-                    old,
-                    new,
-                    states,
-                    picture,
-                    rows,
-                );
-            }
-            refuse(rt, Refusal::BrokenCapture);
-            no_config(rt, config_name, bytes);
-            Came::Judged(Refusal::BrokenCapture)
-        }
-        Got::Failed => Came::Unread,
+    let Some(got) = files::read(rt, config_name, &mut config) else {
+        return Came::Unread;
+    };
+    let c = front(&config, got.held);
+    if c.len() == CONFIG {
+        let job = Job {
+            config_name,
+            name,
+            tone,
+            out,
+        };
+        return with_config(rt, job, c, chunk, word, lent);
     }
+    refuse(rt, Refusal::BrokenCapture);
+    no_config(rt, config_name, got.bytes);
+    Came::Judged(Some(Refusal::BrokenCapture))
 }

@@ -28,21 +28,7 @@ fn past_most(n: usize, from: usize, most: usize) -> usize
     requires { from < n }
     ensures { (from < result) × (result ≤ n) }
 {
-    if most == 0 {
-        return from + 1;
-    }
-    if most < n - from {
-        return from + most;
-    }
-    n
-}
-
-// What is left of some space.
-fn room(space: usize, held: usize) -> usize {
-    if held < space {
-        return space - held;
-    }
-    0
+    from + most.max(1).min(n - from)
 }
 
 // Where the piece ends that begins at a place: while all is kept, with the space for it; with a word
@@ -51,17 +37,15 @@ pub(crate) fn piece(r: Reader, kept: usize, bytes: &[u8], from: usize) -> usize
     requires { from < length bytes.now }
     ensures { (from < result) × (result ≤ length bytes.now) }
 {
-    let stage = r.stage;
-    match stage {
-        Stage::Heading => past_most(bytes.len(), from, room(kept, r.held)),
+    match r.stage {
+        Stage::Heading => past_most(bytes.len(), from, kept.saturating_sub(r.held)),
         Stage::Playing => {
             if r.carried == 0 {
                 return bytes.len();
             }
             past_blank(bytes, from)
         }
-        Stage::HeadTooLong => bytes.len(),
-        Stage::WordTooLong => bytes.len(),
+        Stage::HeadTooLong | Stage::WordTooLong => bytes.len(),
     }
 }
 
@@ -70,23 +54,16 @@ pub(crate) fn piece(r: Reader, kept: usize, bytes: &[u8], from: usize) -> usize
 fn is_lost(r: Reader) -> bool
     ensures { result ≡ rule.is_lost r }
 {
-    let b = r.begun;
-    if is_declared_well(b) {
-        let body = r.body;
-        return is_broken(body);
-    }
-    true
+    !is_declared_well(r.begun) || is_broken(r.body)
 }
 
 // Whether what follows does not count.
 pub(crate) fn is_settled(r: Reader) -> bool
     ensures { result ≡ rule.is_settled r }
 {
-    let stage = r.stage;
-    match stage {
+    match r.stage {
         Stage::Heading => false,
         Stage::Playing => is_lost(r),
-        Stage::HeadTooLong => true,
-        Stage::WordTooLong => true,
+        Stage::HeadTooLong | Stage::WordTooLong => true,
     }
 }

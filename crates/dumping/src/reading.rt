@@ -1,16 +1,17 @@
 // A dump from a descriptor, chunk by chunk, through the controller.
 ghost use Rattle.std.specs.Prelude.{◌≡◌, true, false, length};
 ghost use Rattle.controller.specs.World.{World, world};
-ghost use Rattle.controller.specs.Lent.{before, after};
+ghost use Rattle.controller.specs.Lent.{before, after, Keeps};
 ghost use Rattle.dumping.specs.Reading as rule;
 
 use crate::finding::{at_end, in_piece};
 use crate::pieces::{is_settled, piece};
-use controller::Uc8253;
-use input::{Input, front, read_all};
+use controller::{Lent, Uc8253};
+use input::{front, read_all};
 use std::io::Read;
-use vcd::Judged;
-use vcd_reading::{Ending, Reader, Stage, close, part, start};
+use text::Text;
+use vcd::Fault;
+use vcd_reading::{Limit, Reader, Stage, close, part, start};
 use vcd_reasons::{newlines, unsignalled};
 
 // How far reading got.
@@ -26,86 +27,57 @@ enum Course {
     Unread,
 }
 
-// The record and the reader after some of a dump, how many newlines that has, and how many bytes of
-// the text say why it is malformed, if it is known to be.
+// The record and the reader after some of a dump, and how many newlines that has.
 #[derive(Clone, Copy)]
 struct Gone {
     chip: Uc8253,
     reader: Reader,
     lines: u64,
-    told: usize,
     course: Course,
 }
 
-// How reading a dump ended.
-#[derive(Drop)]
-pub(crate) enum Verdict {
-    Ended(Ending),
-    // A read failed.
-    Unread,
-}
-
-// The record after the last call; and how many bytes of the text say why the dump is turned back, if
-// it is.
+// The record after the last call; how reading the dump ended, unless a read failed.
 #[derive(Drop)]
 pub(crate) struct Closed {
     pub(crate) chip: Uc8253,
-    pub(crate) verdict: Verdict,
-    pub(crate) told: usize,
+    pub(crate) ending: Option<Result<Result<(), Fault>, Limit>>,
 }
 
 // There may be more.
 fn goes_on(course: Course) -> bool
     ensures { result ≡ rule.is_on course }
 {
-    match course {
-        Course::On => true,
-        Course::Whole => false,
-        Course::Settled => false,
-        Course::Unread => false,
-    }
+    matches!(course, Course::On)
 }
 
-// One piece more.
+// One piece more. Why the dump is malformed, once it is known to be, is put into a text.
 fn play_piece(
     g: Gone,
     piece: &[u8],
-    text: &mut [u8],
+    why: &mut Text<'_>,
     kept: &mut [u8],
     word: &mut [u8],
-    old: &mut [u8],
-    new: &mut [u8],
-    states: &mut [i64],
-    picture: &mut [u8],
-    rows: &mut [u64],
+    lent: &mut Lent<'_>,
 ) -> Gone
-    ensures { rule.Steps piece.now g.reader result kept.old word.old kept.new word.new
-        (world g.chip (before old new states picture rows)) (world result.chip (after old new states picture rows)) }
+    ensures steps { rule.Steps piece.now g.reader result kept.old word.old kept.new word.new
+        (world g.chip (before lent)) (world result.chip (after lent)) }
+    ensures same { Keeps lent }
 {
-    let p = g.chip;
-    let r = g.reader;
-    let s = part(r, p, piece, kept, word, old, new, states, picture, rows);
-    let chip = s.chip;
-    let reader = s.reader;
-    if is_settled(reader) {
-        let told = in_piece(text, r, reader, kept, word, piece, g.lines);
-        let course = Course::Settled;
+    let s = part(g.reader, g.chip, piece, kept, word, lent);
+    if is_settled(s.reader) {
+        in_piece(why, g.reader, s.reader, kept, word, piece, g.lines);
         return Gone {
-            chip,
-            reader,
+            chip: s.chip,
+            reader: s.reader,
             lines: g.lines,
-            told,
-            course,
+            course: Course::Settled,
         };
     }
-    let lines = base::saturating_add(g.lines, newlines(piece));
-    let course = Course::On;
     Gone {
-        chip,
-        reader,
-        lines,
-        told: 0,
-        course,
+        chip: s.chip,
+        reader: s.reader,
+        lines: g.lines.saturating_add(newlines(piece)),
+        course: Course::On,
     }
 }
 
@@ -113,38 +85,23 @@ fn play_piece(
 fn play_chunk(
     g: Gone,
     bytes: &[u8],
-    text: &mut [u8],
+    why: &mut Text<'_>,
     kept: &mut [u8],
     word: &mut [u8],
-    old: &mut [u8],
-    new: &mut [u8],
-    states: &mut [i64],
-    picture: &mut [u8],
-    rows: &mut [u64],
+    lent: &mut Lent<'_>,
 ) -> Gone
     requires { rule.is_on g.course ≡ true }
-    ensures { rule.Plays bytes.now g.reader result kept.old word.old kept.new word.new
-        (world g.chip (before old new states picture rows)) (world result.chip (after old new states picture rows)) }
+    ensures plays { rule.Plays bytes.now g.reader result kept.old word.old kept.new word.new
+        (world g.chip (before lent)) (world result.chip (after lent)) }
+    ensures same { Keeps lent }
 {
     let mut q = g;
     let mut from: usize = 0;
+    // A step is a piece long, which what was read before it says: no plainer by an iterator.
     while from < bytes.len() {
-        let r = q.reader;
-        let to = piece(r, kept.len(), bytes, from);
-        q = play_piece(
-            q,
-            &bytes[from..to],
-            text,
-            kept,
-            word,
-            old,
-            new,
-            states,
-            picture,
-            rows,
-        );
-        let course = q.course;
-        if !goes_on(course) {
+        let to = piece(q.reader, kept.len(), bytes, from);
+        q = play_piece(q, &bytes[from..to], why, kept, word, lent);
+        if !goes_on(q.course) {
             return q;
         }
         from = to;
@@ -156,14 +113,11 @@ fn play_chunk(
 fn begin(chip: Uc8253) -> Gone
     ensures { rule.Begins chip result }
 {
-    let reader = start();
-    let course = Course::On;
     Gone {
         chip,
-        reader,
+        reader: start(),
         lines: 0,
-        told: 0,
-        course,
+        course: Course::On,
     }
 }
 
@@ -171,26 +125,15 @@ fn begin(chip: Uc8253) -> Gone
 fn ended(g: Gone, course: Course) -> Gone
     ensures { result ≡ rule.ended course g }
 {
-    let chip = g.chip;
-    let reader = g.reader;
-    Gone {
-        chip,
-        reader,
-        lines: g.lines,
-        told: g.told,
-        course,
-    }
+    Gone { course, ..g }
 }
 
 // After a chunk with which the input ended, if it did.
+#[tactic(auto, unfolding(crate::specs::Reading::last_of))]
 fn last_of(g: Gone, over: bool) -> Gone
     ensures { result ≡ rule.last_of over g }
 {
-    if !over {
-        return g;
-    }
-    let course = g.course;
-    if goes_on(course) {
+    if over && goes_on(g.course) {
         return ended(g, Course::Whole);
     }
     g
@@ -202,40 +145,23 @@ fn next_chunk<I: Read>(
     g: Gone,
     input: &mut I,
     chunk: &mut [u8],
-    text: &mut [u8],
+    why: &mut Text<'_>,
     kept: &mut [u8],
     word: &mut [u8],
-    old: &mut [u8],
-    new: &mut [u8],
-    states: &mut [i64],
-    picture: &mut [u8],
-    rows: &mut [u64],
+    lent: &mut Lent<'_>,
 ) -> Gone
     requires { rule.is_on g.course ≡ true }
-    ensures { (w : World) → rule.Stood g kept.old word.old w (world g.chip (before old new states picture rows))
-        → rule.Stood result kept.new word.new w (world result.chip (after old new states picture rows)) }
+    ensures stood { (w : World) → rule.Stood g kept.old word.old w (world g.chip (before lent))
+        → rule.Stood result kept.new word.new w (world result.chip (after lent)) }
+    ensures same { Keeps lent }
 {
-    let got = read_all(input, chunk);
-    match got {
-        Input::Bytes(n) => {
-            if n == 0 {
-                return ended(g, Course::Whole);
-            }
-            let q = play_chunk(
-                g,
-                front(chunk, n),
-                text,
-                kept,
-                word,
-                old,
-                new,
-                states,
-                picture,
-                rows,
-            );
+    match read_all(input, chunk) {
+        Ok(0) => ended(g, Course::Whole),
+        Ok(n) => {
+            let q = play_chunk(g, front(chunk, n), why, kept, word, lent);
             last_of(q, n < chunk.len())
         }
-        Input::Failed(_) => ended(g, Course::Unread),
+        Err(_) => ended(g, Course::Unread),
     }
 }
 
@@ -244,29 +170,21 @@ fn read_chunks<I: Read>(
     p: Uc8253,
     input: &mut I,
     chunk: &mut [u8],
-    text: &mut [u8],
+    why: &mut Text<'_>,
     kept: &mut [u8],
     word: &mut [u8],
-    old: &mut [u8],
-    new: &mut [u8],
-    states: &mut [i64],
-    picture: &mut [u8],
-    rows: &mut [u64],
+    lent: &mut Lent<'_>,
 ) -> Gone
-    ensures { rule.Stood result kept.new word.new (world p (before old new states picture rows))
-        (world result.chip (after old new states picture rows)) }
+    ensures stood { rule.Stood result kept.new word.new (world p (before lent))
+        (world result.chip (after lent)) }
+    ensures same { Keeps lent }
 {
     let mut g = begin(p);
-    let mut turns = base::TOP;
-    while 0 < turns {
-        g = next_chunk(
-            g, input, chunk, text, kept, word, old, new, states, picture, rows,
-        );
-        let course = g.course;
-        if !goes_on(course) {
+    'chunks: for _ in 0..u64::MAX {
+        g = next_chunk(g, input, chunk, why, kept, word, lent);
+        if !goes_on(g.course) {
             return g;
         }
-        turns -= 1;
     }
     g
 }
@@ -275,81 +193,44 @@ fn read_chunks<I: Read>(
 fn is_open(course: Course) -> bool
     ensures { result ≡ rule.is_open course }
 {
-    match course {
-        Course::On => true,
-        Course::Whole => true,
-        Course::Settled => false,
-        Course::Unread => false,
-    }
+    matches!(course, Course::On | Course::Whole)
 }
 
 // Reading stopped before the end.
-fn settled(r: Reader) -> Ending
+fn settled(r: Reader) -> Result<Result<(), Fault>, Limit>
     ensures { result ≡ rule.settled_ending r.stage }
 {
-    let stage = r.stage;
-    match stage {
-        Stage::Heading => Ending::Judged(Judged::Malformed),
-        Stage::Playing => Ending::Judged(Judged::Malformed),
-        Stage::HeadTooLong => Ending::HeadTooLong,
-        Stage::WordTooLong => Ending::WordTooLong,
+    match r.stage {
+        Stage::Heading | Stage::Playing => Ok(Err(Fault::Malformed)),
+        Stage::HeadTooLong => Err(Limit::HeadTooLong),
+        Stage::WordTooLong => Err(Limit::WordTooLong),
     }
 }
 
-fn stopped(course: Course, r: Reader) -> Verdict
-    ensures { result ≡ rule.stopped_verdict course r.stage }
+fn stopped(course: Course, r: Reader) -> Option<Result<Result<(), Fault>, Limit>>
+    ensures { result ≡ rule.stopped_ending course r.stage }
 {
     match course {
-        Course::On => Verdict::Unread,
-        Course::Whole => Verdict::Unread,
-        Course::Settled => Verdict::Ended(settled(r)),
-        Course::Unread => Verdict::Unread,
-    }
-}
-
-// Why a dump that was read to its end is turned back, if it is.
-fn why(e: Ending, text: &mut [u8], r: Reader, kept: &[u8], word: &[u8], lines: u64) -> usize {
-    match e {
-        Ending::Judged(judged) => match judged {
-            Judged::Fine => 0,
-            Judged::Malformed => at_end(text, r, kept, word, lines),
-            Judged::Unsignalled => {
-                let b = r.begun;
-                let h = b.head;
-                unsignalled(text, 0, h)
-            }
-        },
-        Ending::HeadTooLong => 0,
-        Ending::WordTooLong => 0,
+        Course::Settled => Some(settled(r)),
+        Course::On | Course::Whole | Course::Unread => None,
     }
 }
 
 // No chunk follows.
-fn close_dump(
-    g: Gone,
-    text: &mut [u8],
-    kept: &[u8],
-    word: &[u8],
-    old: &mut [u8],
-    new: &mut [u8],
-    states: &mut [i64],
-    picture: &mut [u8],
-    rows: &mut [u64],
-) -> Closed
-    ensures { (w : World) → rule.Stood g kept.now word.now w (world g.chip (before old new states picture rows))
-        → rule.Read result (length kept.now) (length word.now) w (world result.chip (after old new states picture rows)) }
+fn close_dump(g: Gone, why: &mut Text<'_>, kept: &[u8], word: &[u8], lent: &mut Lent<'_>) -> Closed
+    ensures read { (w : World) → rule.Stood g kept.now word.now w (world g.chip (before lent))
+        → rule.Read result (length kept.now) (length word.now) w (world result.chip (after lent)) }
+    ensures same { Keeps lent }
 {
-    let p = g.chip;
-    let reader = g.reader;
-    let c = close(reader, p, kept, word, old, new, states, picture, rows);
-    let chip = c.chip;
-    let ending = c.ending;
-    let told = why(ending, text, reader, kept, word, g.lines);
-    let verdict = Verdict::Ended(ending);
+    let c = close(g.reader, g.chip, kept, word, lent);
+    match c.ending {
+        Ok(Err(Fault::Malformed)) => at_end(why, g.reader, kept, word, g.lines),
+        Ok(Err(Fault::Unsignalled)) => unsignalled(why, g.reader.begun.head),
+        Ok(Ok(())) | Err(_) => {}
+    }
     Closed {
-        chip,
-        verdict,
-        told,
+        chip: c.chip,
+        ending: Some(c.ending),
     }
 }
 
@@ -358,31 +239,21 @@ pub(crate) fn read_dump<I: Read>(
     p: Uc8253,
     input: &mut I,
     chunk: &mut [u8],
-    text: &mut [u8],
+    why: &mut Text<'_>,
     kept: &mut [u8],
     word: &mut [u8],
-    old: &mut [u8],
-    new: &mut [u8],
-    states: &mut [i64],
-    picture: &mut [u8],
-    rows: &mut [u64],
+    lent: &mut Lent<'_>,
 ) -> Closed
-    ensures { rule.Read result (length kept.new) (length word.new) (world p (before old new states picture rows))
-        (world result.chip (after old new states picture rows)) }
+    ensures read { rule.Read result (length kept.new) (length word.new) (world p (before lent))
+        (world result.chip (after lent)) }
+    ensures same { Keeps lent }
 {
-    let g = read_chunks(
-        p, input, chunk, text, kept, word, old, new, states, picture, rows,
-    );
-    let course = g.course;
-    if is_open(course) {
-        return close_dump(g, text, kept, word, old, new, states, picture, rows);
+    let g = read_chunks(p, input, chunk, why, kept, word, lent);
+    if is_open(g.course) {
+        return close_dump(g, why, kept, word, lent);
     }
-    let chip = g.chip;
-    let reader = g.reader;
-    let verdict = stopped(course, reader);
     Closed {
-        chip,
-        verdict,
-        told: g.told,
+        chip: g.chip,
+        ending: stopped(g.course, g.reader),
     }
 }

@@ -1,9 +1,11 @@
 // What is said of a configuration and a dump on standard error, behind the file's name.
 use base::Refusal;
 use files::Shown;
-use input::front;
 use reasons::{because, config_length, config_reason, words};
-use text::put;
+use text::Text;
+
+// The bytes of what is said: no refusal and its reason have more.
+pub(crate) const ROOM: usize = 256;
 
 pub(crate) fn say<R: Eprint>(rt: &R, name: &[u8], what: &[u8]) {
     let shown = Shown { name };
@@ -13,25 +15,27 @@ pub(crate) fn say<R: Eprint>(rt: &R, name: &[u8], what: &[u8]) {
 
 // A configuration of so many bytes is none.
 pub(crate) fn no_config<R: Eprint>(rt: &R, name: &[u8], bytes: u64) {
-    let mut text = [0u8; 256];
-    let refused = Refusal::BrokenCapture;
-    let n = words(&mut text, 0, refused.number());
-    let m = config_length(&mut text, n, bytes);
-    say(rt, name, front(&text, m));
+    let mut buffer = [0u8; ROOM];
+    let mut text = Text::new(&mut buffer);
+    words(&mut text, Refusal::BrokenCapture.number());
+    config_length(&mut text, bytes);
+    say(rt, name, text.written());
 }
 
 // A configuration that is turned back, 9 and 1 to 5.
 pub(crate) fn bad_config<R: Eprint>(rt: &R, name: &[u8], config: &[u8], refused: Refusal) {
-    let mut text = [0u8; 256];
-    let n = words(&mut text, 0, refused.number());
-    let m = because(&mut text, n, config_reason(config));
-    say(rt, name, front(&text, m));
+    let mut buffer = [0u8; ROOM];
+    let mut text = Text::new(&mut buffer);
+    words(&mut text, refused.number());
+    because(&mut text, config_reason(config));
+    say(rt, name, text.written());
 }
 
 // A dump that is turned back, 11 and 12.
 pub(crate) fn bad_dump<R: Eprint>(rt: &R, name: &[u8], refused: Refusal, why: &[u8]) {
-    let mut text = [0u8; 256];
-    let n = words(&mut text, 0, refused.number());
-    let m = put(&mut text, n, why);
-    say(rt, name, front(&text, m));
+    let mut buffer = [0u8; ROOM];
+    let mut text = Text::new(&mut buffer);
+    words(&mut text, refused.number());
+    text.put(why);
+    say(rt, name, text.written());
 }

@@ -33,16 +33,14 @@ fn write_parts<W: Write>(
     form: Form,
     to: &mut W,
     o: Outcome,
-    answers: &[u16],
     picture: &[u8],
     rows: &[u64],
-) -> io::Result<()>
-    requires { answers.now ≡ [] }
-{
+) -> io::Result<()> {
     let end = count(form, o, b"");
     let mut from: usize = 0;
+    // A step is a part long, which is as much as the buffer takes: no plainer by an iterator.
     while from < end {
-        let part = next_part(text, form, o, b"", answers, picture, rows, from);
+        let part = next_part(text, form, o, b"", &[], picture, rows, from);
         let held = part.held;
         let next = part.next;
         if next == from {
@@ -62,6 +60,5 @@ pub(crate) fn write<W: Write>(
     rows: &[u64],
 ) -> io::Result<()> {
     let mut text = [0u8; ROOM];
-    let answers = [0u16; 1];
-    write_parts(&mut text, form, to, o, &answers[..0], picture, rows)
+    write_parts(&mut text, form, to, o, picture, rows)
 }

@@ -1,9 +1,8 @@
 -- Document 01, "The capture program": events of 10 bytes, and what a run of them does, one call after the other.
-use Rattle.std.specs.Prelude.{Bool, ◌&&◌, List, ℕ, ◌+◌, ◌*◌, ◌/◌, eqb, length, get_or, set}
+use Rattle.std.specs.Prelude.{None, Some, Bool, ◌&&◌, List, ℕ, ◌+◌, ◌*◌, ◌/◌, eqb, length, get_or, set}
 use Rattle.base.specs.Pick.{pick, between}
 use Rattle.base.specs.Turns.{turns}
-use Rattle.controller.specs.declared.reads.Read.{Read}
-use Rattle.controller.specs.declared.reads.Read.TheVariants.{Byte, Nothing}
+use Rattle.controller.specs.Maybe.{Read}
 use Rattle.controller.specs.World.{World}
 use Rattle.controller.specs.TurnedBack.{turned_back}
 use Rattle.controller.specs.Calls.{read_answer}
@@ -47,8 +46,8 @@ event_refused e w = pick (between 1 6 e.kind) (turned_back (asserts e) e.time w)
 
 -- the byte that a read gave, 256 for none
 abbrev pub read_number : Read → ℕ
-read_number (Byte b) = b
-read_number Nothing = 256
+read_number (Some b) = b
+read_number None = 256
 
 -- what a read gave; 257 for an event that is no read
 unfoldable pub event_answer : Event → World → ℕ

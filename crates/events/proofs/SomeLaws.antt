@@ -7,6 +7,11 @@ use native.Mathlib.Omega.{arith}
 use lib.Dec.{eqb}
 use lib.ListN.{length, set, length-set}
 use borrow.Author.Tests.{eqb-true}
+use Rattle.std.proofs.Common.{Option, Some, None}
+use Rattle.std.specs.Option.{option_or}
+use Rattle.base.specs.declared.refusals.Refusal.{Refusal}
+use Rattle.base.specs.RefusalNumbers.{number_of}
+use Rattle.base.proofs.RefusalWords.{turned}
 use Rattle.base.proofs.Cases.{by_cases}
 use Rattle.base.proofs.Turns.{turns_join, turns_same, turns_keep}
 use Rattle.controller.specs.World.{World}
@@ -100,3 +105,9 @@ going_on {bytes} {i} {k} {w} {answers₀ = answers₀} g h first =
       gave = h.gave ∙ (λ j. answers_on bytes i k (g.is j) (g.gave j)) ∙ answers_on_lem bytes i k w answers₀;
       turned = first ∙ (λ j. earlier (g.turned j) ((h.turned ∙ ap (refused_on bytes i k) g.is) j)) ∙ refused_on_lem bytes i k w;
     }
+
+-- the first of two refusals has the earlier number
+pub first_of : (a b : Option Refusal) → number_of (option_or a b) ≡ earlier (number_of a) (number_of b)
+unfolding earlier
+first_of None b = refl
+first_of (Some r) b = rw (turned r refl)

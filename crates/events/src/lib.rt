@@ -9,17 +9,17 @@ mod playing;
 mod steps;
 
 ghost use Rattle.std.specs.Prelude.{◌≡◌, ◌+◌, ◌*◌, ◌^◌, ◌<◌, set};
-ghost use Rattle.base.specs.RefusalNumbers.{refusal_number};
+ghost use Rattle.base.specs.RefusalNumbers.{number_of};
 ghost use Rattle.controller.specs.World.{world};
-ghost use Rattle.controller.specs.Lent.{before, after, Gives, Done};
+ghost use Rattle.controller.specs.Lent.{before, after, Gives, Done, Keeps};
 ghost use Rattle.event.specs.Events as rule;
 ghost use Rattle.streams.specs.InnerStretch as stretch;
 
 use base::Refusal;
 use capture::{EVENT_BYTES, NO_READ};
-use controller::Uc8253;
+use controller::{Lent, Uc8253};
 pub use event::{Event, event_at};
-pub use playing::{Played, play};
+pub use playing::play;
 pub use steps::{Stepped, read_number, step};
 use streams::stream;
 
@@ -27,7 +27,7 @@ use streams::stream;
 #[derive(Clone, Copy)]
 pub struct Ran {
     pub chip: Uc8253,
-    pub refused: Refusal,
+    pub refused: Option<Refusal>,
 }
 
 // Entry i becomes x; past the end nothing is put.
@@ -37,16 +37,6 @@ fn put(answers: &mut [u16], i: usize, x: u16)
     if i < answers.len() {
         answers[i] = x;
     }
-}
-
-// The earlier of two refusals.
-fn earlier(first: Refusal, next: Refusal) -> Refusal
-    ensures { refusal_number result ≡ rule.earlier (refusal_number first) (refusal_number next) }
-{
-    if first.none() {
-        return next;
-    }
-    first
 }
 
 // So many answers from a place on become that of an event that reads nothing.
@@ -65,7 +55,7 @@ fn mark(answers: &mut [u16], from: usize, count: usize)
 #[derive(Clone, Copy)]
 struct Went {
     chip: Uc8253,
-    refused: Refusal,
+    refused: Option<Refusal>,
     done: usize,
 }
 
@@ -75,64 +65,48 @@ fn next_events(
     events: &[u8],
     from: usize,
     answers: &mut [u16],
-    old: &mut [u8],
-    new: &mut [u8],
-    states: &mut [i64],
-    picture: &mut [u8],
-    rows: &mut [u64],
+    lent: &mut Lent<'_>,
 ) -> Went
     requires { from < rule.events_in events.now }
-    ensures { stretch.Goes events.now from result.done (world p (before old new states picture rows))
-        (world result.chip (after old new states picture rows)) answers.old answers.new
-        (refusal_number result.refused) }
+    ensures goes { stretch.Goes events.now from result.done (world p (before lent))
+        (world result.chip (after lent)) answers.old answers.new
+        (number_of result.refused) }
+    ensures kept { Keeps lent }
 {
-    let f = stream(p, events, from, old, new, states, picture, rows);
+    let f = stream(p, events, from, lent);
     let chip = f.chip;
     if f.done != 0 {
         mark(answers, from, f.done);
         return Went {
             chip,
-            refused: Refusal::Nothing,
+            refused: None,
             done: f.done,
         };
     }
     let event = event_at(events, from);
-    let s = step(chip, event, old, new, states, picture, rows);
+    let s = step(chip, event, lent);
     put(answers, from, s.answer);
-    let after = s.chip;
-    let refused = s.refused;
     Went {
-        chip: after,
-        refused,
+        chip: s.chip,
+        refused: s.refused,
         done: 1,
     }
 }
 
 // All whole events of the bytes, one after the other: a refused one changes nothing, and the run goes on.
-pub fn run(
-    p: Uc8253,
-    events: &[u8],
-    answers: &mut [u16],
-    old: &mut [u8],
-    new: &mut [u8],
-    states: &mut [i64],
-    picture: &mut [u8],
-    rows: &mut [u64],
-) -> Ran
-    ensures done { Done (rule.ran events.now) (rule.refused events.now) p result.chip result.refused
-        old new states picture rows }
-    ensures gives { Gives (rule.answers events.now answers.old) p answers.new
-        old new states picture rows }
+pub fn run(p: Uc8253, events: &[u8], answers: &mut [u16], lent: &mut Lent<'_>) -> Ran
+    ensures done { Done (rule.ran events.now) (rule.refused events.now) p result.chip (number_of result.refused) lent }
+    ensures gives { Gives (rule.answers events.now answers.old) p answers.new lent }
+    ensures kept { Keeps lent }
 {
     let count = events.len() / EVENT_BYTES;
     let mut chip = p;
-    let mut refused = Refusal::Nothing;
+    let mut refused = None;
     let mut i: usize = 0;
     while i < count {
-        let s = next_events(chip, events, i, answers, old, new, states, picture, rows);
+        let s = next_events(chip, events, i, answers, lent);
         chip = s.chip;
-        let turned = s.refused;
-        refused = earlier(refused, turned);
+        refused = refused.or(s.refused);
         i += s.done;
     }
     Ran { chip, refused }

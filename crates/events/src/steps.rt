@@ -1,89 +1,92 @@
 // One event: the call that its kind stands for, with its refusal and what a read gave.
-ghost use Rattle.std.specs.Prelude.{◌≡◌};
-ghost use Rattle.controller.specs.Lent.{Gives, Done};
+ghost use Rattle.std.specs.Prelude.{◌≡◌, None};
+ghost use Rattle.base.specs.RefusalNumbers.{number_of, refusal_in};
+ghost use Rattle.base.specs.RefusalNumbers.{given as record_of};
+ghost use Rattle.controller.specs.Lent.{Gives, Done, Keeps};
 ghost use Rattle.event.specs.Events as rule;
 
 use crate::Event;
 use base::Refusal;
 use capture::{ADVANCE, COMMAND, DATA, NO_READ, NOTHING, READ, RESET, VCOM_RULE};
-use controller::{Read, Uc8253};
-use uc8253::{
-    Answer, ReadAnswer, advance, read_data, set_reset, set_vcom_rule, write_command, write_data,
-};
+use controller::{Lent, Uc8253};
+use uc8253::{ReadAnswer, advance, read_data, set_reset, set_vcom_rule, write_command, write_data};
 
 // The record after an event, what turned it back, if anything did, and what a read gave.
 #[derive(Clone, Copy)]
 pub struct Stepped {
     pub chip: Uc8253,
-    pub refused: Refusal,
+    pub refused: Option<Refusal>,
     pub answer: u16,
 }
 
-// After a call that reads nothing.
-fn no_read(a: Answer) -> Stepped
-    ensures { result ≡ record { chip = a.chip; refused = a.refused; answer = 257 } }
+// After a call that reads nothing, on a record.
+fn no_read(p: Uc8253, given: Result<Uc8253, Refusal>) -> Stepped
+    ensures { result ≡ record { chip = record_of (λ q. q) p given; refused = refusal_in given; answer = 257 } }
 {
-    let chip = a.chip;
-    let refused = a.refused;
-    Stepped {
-        chip,
-        refused,
-        answer: NO_READ,
+    match given {
+        Ok(chip) => Stepped {
+            chip,
+            refused: None,
+            answer: NO_READ,
+        },
+        Err(refusal) => Stepped {
+            chip: p,
+            refused: Some(refusal),
+            answer: NO_READ,
+        },
     }
 }
 
 // The number of what a read gave.
-pub fn read_number(byte: Read) -> u16
+pub fn read_number(byte: Option<u8>) -> u16
     ensures { result ≡ rule.read_number byte }
 {
     match byte {
-        Read::Byte(b) => b as u16,
-        Read::Nothing => NOTHING,
+        Some(b) => b as u16,
+        None => NOTHING,
     }
 }
 
-// After a read.
-fn with_byte(a: ReadAnswer) -> Stepped
-    ensures { result ≡ record { chip = a.chip; refused = a.refused; answer = rule.read_number a.byte } }
+// After a read, on a record.
+fn with_byte(p: Uc8253, given: Result<ReadAnswer, Refusal>) -> Stepped
+    ensures { result ≡ record {
+      chip = record_of (λ (a : ReadAnswer). a.chip) p given;
+      refused = refusal_in given;
+      answer = rule.read_number (record_of (λ (a : ReadAnswer). a.byte) None given);
+    } }
 {
-    let chip = a.chip;
-    let byte = a.byte;
-    let refused = a.refused;
-    let answer = read_number(byte);
-    Stepped {
-        chip,
-        refused,
-        answer,
+    match given {
+        Ok(read) => Stepped {
+            chip: read.chip,
+            refused: None,
+            answer: read_number(read.byte),
+        },
+        Err(refusal) => Stepped {
+            chip: p,
+            refused: Some(refusal),
+            answer: NOTHING,
+        },
     }
 }
 
 // The event's call; an event of any other kind does nothing.
-pub fn step(
-    p: Uc8253,
-    event: Event,
-    old: &mut [u8],
-    new: &mut [u8],
-    states: &mut [i64],
-    picture: &mut [u8],
-    rows: &mut [u64],
-) -> Stepped
-    ensures done { Done (rule.event_done event) (rule.event_refused event) p result.chip result.refused
-        old new states picture rows }
-    ensures gives { Gives (rule.event_answer event) p result.answer old new states picture rows }
+pub fn step(p: Uc8253, event: Event, lent: &mut Lent<'_>) -> Stepped
+    ensures done { Done (rule.event_done event) (rule.event_refused event) p result.chip (number_of result.refused) lent }
+    ensures gives { Gives (rule.event_answer event) p result.answer lent }
+    ensures kept { Keeps lent }
 {
     let at = event.time;
     let value = event.value;
-    let kind = event.kind;
-    match kind {
-        COMMAND => no_read(write_command(p, at, value, old, new, states, picture, rows)),
-        DATA => no_read(write_data(p, at, value, old, new, states, picture, rows)),
-        READ => with_byte(read_data(p, at, old, new, states, picture, rows)),
-        RESET => no_read(set_reset(p, at, value == 1, old, new, states, picture, rows)),
-        ADVANCE => no_read(advance(p, at, old, new, states, picture, rows)),
-        VCOM_RULE => no_read(set_vcom_rule(p, at, value == 2, old, new, states, picture, rows)),
+    match event.kind {
+        COMMAND => no_read(p, write_command(p, at, value, lent)),
+        DATA => no_read(p, write_data(p, at, value, lent)),
+        READ => with_byte(p, read_data(p, at, lent)),
+        RESET => no_read(p, set_reset(p, at, value == 1, lent)),
+        ADVANCE => no_read(p, advance(p, at, lent)),
+        VCOM_RULE => no_read(p, set_vcom_rule(p, at, value == 2, lent)),
         _ => Stepped {
             chip: p,
-            refused: Refusal::Nothing,
+            refused: None,
             answer: NO_READ,
         },
     }

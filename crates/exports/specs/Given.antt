@@ -1,15 +1,13 @@
 -- What the calls and the questions give to another language.
-use Rattle.std.specs.Prelude.{◌≡◌, Bool, true, false, ◌||◌, not, List, ℕ, eqb}
+use Rattle.std.specs.Prelude.{None, Some, ◌≡◌, Bool, true, false, ◌||◌, not, List, ℕ, eqb}
 use Rattle.base.specs.Pick.{pick}
 use Rattle.config.specs.declared.Uc8253Config.{Uc8253Config}
-use Rattle.ram.specs.declared.Found.TheVariants as founds
 use Rattle.controller.specs.declared.Uc8253.{Uc8253}
-use Rattle.controller.specs.declared.Due.TheVariants as dues
 use Rattle.controller.specs.World.{World, Buffers, world}
 use Rattle.controller.specs.TurnedBack.{foreign_record, lent_fits, making_refused}
 use Rattle.controller.specs.Calls.{made}
 use Rattle.controller.specs.Ask.{Ask, Answer, nothing, byte, count, low, due, bit, part, wide, did, refused_by, answered}
-use Rattle.controller.specs.Lent.{Over, before, after}
+use Rattle.exports.specs.Apart.{Over, before, after}
 use Rattle.event.specs.Events as runs
 use Rattle.exports.specs.declared.Given.{Given}
 use Rattle.exports.specs.declared.Asked.{Asked}
@@ -64,10 +62,10 @@ ran_given events h b =
 -- the answer to a question: 1 where the busy pin is low; the time at which what runs ends; a bit. It is known where there is one
 abbrev pub asked_of : ℕ → Answer → Asked
 asked_of n (low b) = record { value = pick b 1 0; refused = n; known = eqb n 0 }
-asked_of n (due (dues.At t)) = record { value = t; refused = n; known = true }
-asked_of n (due dues.Never) = record { value = 0; refused = n; known = false }
-asked_of n (bit (founds.Bit b)) = record { value = b; refused = n; known = true }
-asked_of n (bit founds.Nothing) = record { value = 0; refused = n; known = false }
+asked_of n (due (Some t)) = record { value = t; refused = n; known = true }
+asked_of n (due None) = record { value = 0; refused = n; known = false }
+asked_of n (bit (Some b)) = record { value = b; refused = n; known = true }
+asked_of n (bit None) = record { value = 0; refused = n; known = false }
 asked_of n nothing = record { value = 0; refused = n; known = false }
 asked_of n (byte r) = record { value = 0; refused = n; known = false }
 asked_of n (count m) = record { value = 0; refused = n; known = false }

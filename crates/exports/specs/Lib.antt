@@ -1,3 +1,4 @@
+pub mod Apart
 pub mod Taken
 pub mod Handed
 pub mod Given

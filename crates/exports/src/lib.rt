@@ -5,30 +5,31 @@
 mod handed;
 mod taken;
 
-ghost use Rattle.std.specs.Prelude.{◌≡◌, true, false};
-ghost use Rattle.base.specs.RefusalNumbers.{refusal_number};
+ghost use Rattle.std.specs.Prelude.{◌≡◌, true, false, None};
+ghost use Rattle.base.specs.RefusalNumbers.{refusal_number, number_in};
 ghost use Rattle.capture.specs.Layout.{config_in};
-ghost use Rattle.controller.specs.World.{Buffers, buffers, world};
+ghost use Rattle.controller.specs.World.{Buffers, world};
 ghost use Rattle.controller.specs.Setters.{with_old, with_new, with_states, with_rows};
 ghost use Rattle.controller.specs.Calls.{made};
 ghost use Rattle.controller.specs.Ask as ask;
-ghost use Rattle.controller.specs.Lent.{before, after};
+ghost use Rattle.controller.specs.Lent.{held};
+ghost use Rattle.exports.specs.Apart.{before, after};
+ghost use Rattle.base.specs.RefusalNumbers.{given as record_of};
 ghost use Rattle.event.specs.Events as runs;
 ghost use Rattle.exports.specs.Taken.{record_taken};
 ghost use Rattle.exports.specs.Given as rule;
 
-use base::Refusal;
-use capture::{NO_READ, config};
-use controller::{Due, Uc8253};
+use base::{Refusal, number_of};
+use capture::{NO_READ, NOTHING, config};
+use controller::{Lent, Uc8253};
 use events::{read_number, run};
 use handed::hand_over;
 pub use handed::{Handed, HandedActive, HandedImage, HandedOperation};
-use ram::Found;
-use rules::{foreign, lengths_fit};
+use rules::{foreign, lent_fits};
 use taken::taken;
 use uc8253::{
-    Answer, advance, busy_pin, next_deadline, power_on, ram_bit, read_data, set_reset,
-    set_vcom_rule, take_diagnostics, wide_picture, write_command, write_data,
+    advance, busy_pin, next_deadline, power_on, ram_bit, read_data, set_reset, set_vcom_rule,
+    take_diagnostics, wide_picture, write_command, write_data, zeros,
 };
 
 // The record after a call, what was handed in where the call was turned back; the number of the
@@ -52,32 +53,21 @@ pub struct Asked {
 }
 
 // A call that was turned back gives back what was handed in.
-fn give(back: Handed, p: Uc8253, refused: Refusal, answer: u16) -> Given
-    ensures { result ≡ rule.given_of back p (refusal_number refused) answer }
+fn give(back: Handed, given: Result<Uc8253, Refusal>, answer: u16) -> Given
+    ensures { (p : Uc8253) → result ≡ rule.given_of back (record_of (λ q. q) p given) (number_in given) answer }
 {
-    let no = refused.number();
-    if refused.none() {
-        let chip = hand_over(p);
-        return Given {
-            chip,
-            refused: no,
+    match given {
+        Ok(chip) => Given {
+            chip: hand_over(chip),
+            refused: 0,
             answer,
-        };
+        },
+        Err(refusal) => Given {
+            chip: back,
+            refused: refusal.number(),
+            answer,
+        },
     }
-    Given {
-        chip: back,
-        refused: no,
-        answer,
-    }
-}
-
-// After a call that reads nothing.
-fn no_read(back: Handed, a: Answer) -> Given
-    ensures { result ≡ rule.given_of back a.chip (refusal_number a.refused) 257 }
-{
-    let chip = a.chip;
-    let refused = a.refused;
-    give(back, chip, refused, NO_READ)
 }
 
 // Making, under the configuration of a capture file.
@@ -94,16 +84,18 @@ pub extern "C" fn jollanqe_make(
     ensures rows_value { after old new states picture rows
         ≡ (made (config_in file.now) (before old new states picture rows)).lent }
 {
-    let config = config(file);
-    let a = power_on(config, old, new, states, picture, rows);
-    let p = a.chip;
-    let refused = a.refused;
-    let chip = hand_over(p);
-    Given {
-        chip,
-        refused: refused.number(),
-        answer: NO_READ,
-    }
+    let mut lent = Lent {
+        old,
+        new,
+        states,
+        picture,
+        rows,
+    };
+    give(
+        hand_over(zeros()),
+        power_on(config(file), &mut lent),
+        NO_READ,
+    )
 }
 
 // A command byte.
@@ -120,11 +112,15 @@ pub extern "C" fn jollanqe_command(
 ) -> Given
     ensures { rule.Passes (ask.command at command) chip result old new states picture rows }
 {
+    let mut lent = Lent {
+        old,
+        new,
+        states,
+        picture,
+        rows,
+    };
     let p = taken(chip);
-    no_read(
-        chip,
-        write_command(p, at, command, old, new, states, picture, rows),
-    )
+    give(chip, write_command(p, at, command, &mut lent), NO_READ)
 }
 
 // A data byte.
@@ -141,11 +137,15 @@ pub extern "C" fn jollanqe_data(
 ) -> Given
     ensures { rule.Passes (ask.datum at byte) chip result old new states picture rows }
 {
+    let mut lent = Lent {
+        old,
+        new,
+        states,
+        picture,
+        rows,
+    };
     let p = taken(chip);
-    no_read(
-        chip,
-        write_data(p, at, byte, old, new, states, picture, rows),
-    )
+    give(chip, write_data(p, at, byte, &mut lent), NO_READ)
 }
 
 // The next byte of a read.
@@ -161,12 +161,18 @@ pub extern "C" fn jollanqe_read(
 ) -> Given
     ensures { rule.Passes (ask.reading at) chip result old new states picture rows }
 {
+    let mut lent = Lent {
+        old,
+        new,
+        states,
+        picture,
+        rows,
+    };
     let p = taken(chip);
-    let a = read_data(p, at, old, new, states, picture, rows);
-    let q = a.chip;
-    let refused = a.refused;
-    let byte = a.byte;
-    give(chip, q, refused, read_number(byte))
+    match read_data(p, at, &mut lent) {
+        Ok(read) => give(chip, Ok(read.chip), read_number(read.byte)),
+        Err(refusal) => give(chip, Err(refusal), NOTHING),
+    }
 }
 
 // The reset line goes low (asserted) or is released.
@@ -183,11 +189,15 @@ pub extern "C" fn jollanqe_reset(
 ) -> Given
     ensures { rule.Passes (ask.reset at asserted) chip result old new states picture rows }
 {
+    let mut lent = Lent {
+        old,
+        new,
+        states,
+        picture,
+        rows,
+    };
     let p = taken(chip);
-    no_read(
-        chip,
-        set_reset(p, at, asserted, old, new, states, picture, rows),
-    )
+    give(chip, set_reset(p, at, asserted, &mut lent), NO_READ)
 }
 
 // VCOM's rule from the next refresh on: rule 2, by its own frames, or rule 1.
@@ -204,11 +214,15 @@ pub extern "C" fn jollanqe_vcom_rule(
 ) -> Given
     ensures { rule.Passes (ask.vcom_rule at by_frame) chip result old new states picture rows }
 {
+    let mut lent = Lent {
+        old,
+        new,
+        states,
+        picture,
+        rows,
+    };
     let p = taken(chip);
-    no_read(
-        chip,
-        set_vcom_rule(p, at, by_frame, old, new, states, picture, rows),
-    )
+    give(chip, set_vcom_rule(p, at, by_frame, &mut lent), NO_READ)
 }
 
 // Brings the chip to a time.
@@ -224,33 +238,22 @@ pub extern "C" fn jollanqe_advance(
 ) -> Given
     ensures { rule.Passes (ask.advance at) chip result old new states picture rows }
 {
+    let mut lent = Lent {
+        old,
+        new,
+        states,
+        picture,
+        rows,
+    };
     let p = taken(chip);
-    no_read(chip, advance(p, at, old, new, states, picture, rows))
+    give(chip, advance(p, at, &mut lent), NO_READ)
 }
 
 // Every event of a run is turned back, by 6 or by 5.
-fn turns_all_back(
-    p: Uc8253,
-    old: &[u8],
-    new: &[u8],
-    states: &[i64],
-    picture: &[u8],
-    rows: &[u64],
-) -> bool
-    ensures { result ≡ rule.turns_all_back p (buffers old.now new.now states.now picture.now rows.now) }
+fn turns_all_back(p: Uc8253, lent: &Lent<'_>) -> bool
+    ensures { result ≡ rule.turns_all_back p (held lent.now) }
 {
-    if foreign(p) {
-        return true;
-    }
-    let config = p.config;
-    !lengths_fit(
-        config,
-        old.len(),
-        new.len(),
-        states.len(),
-        picture.len(),
-        rows.len(),
-    )
+    foreign(p) || !lent_fits(p.config, lent)
 }
 
 // A run of events, ten bytes each; the refusal is the first one's.
@@ -271,23 +274,27 @@ pub extern "C" fn jollanqe_run(
     ensures answers_after { answers.new ≡ runs.answers events.now answers.old
         (world (record_taken chip) (before old new states picture rows)) }
 {
+    let mut lent = Lent {
+        old,
+        new,
+        states,
+        picture,
+        rows,
+    };
     let p = taken(chip);
-    let kept = turns_all_back(p, old, new, states, picture, rows);
-    let ran = run(p, events, answers, old, new, states, picture, rows);
-    let refused = ran.refused;
-    let no = refused.number();
+    let kept = turns_all_back(p, &lent);
+    let ran = run(p, events, answers, &mut lent);
+    let refused = number_of(ran.refused);
     if kept {
         return Given {
             chip,
-            refused: no,
+            refused,
             answer: NO_READ,
         };
     }
-    let q = ran.chip;
-    let last = hand_over(q);
     Given {
-        chip: last,
-        refused: no,
+        chip: hand_over(ran.chip),
+        refused,
         answer: NO_READ,
     }
 }
@@ -297,11 +304,39 @@ pub extern "C" fn jollanqe_run(
 pub extern "C" fn jollanqe_take(chip: Handed, rows: &[u64]) -> Given
     ensures { (b : Buffers) → result ≡ rule.given ask.taking chip (with_rows rows.now b) }
 {
-    let p = taken(chip);
-    let t = take_diagnostics(p, rows);
-    let q = t.chip;
-    let refused = t.refused;
-    give(chip, q, refused, t.count)
+    match take_diagnostics(taken(chip), rows) {
+        Ok(rows) => give(chip, Ok(rows.chip), rows.count),
+        Err(refusal) => give(chip, Err(refusal), 0),
+    }
+}
+
+// A question that was turned back has no answer.
+fn unasked(refusal: Refusal) -> Asked
+    ensures { result ≡ record { value = 0; refused = refusal_number refusal; known = false } }
+{
+    Asked {
+        value: 0,
+        refused: refusal.number(),
+        known: false,
+    }
+}
+
+// The answer to a question that was not turned back, if there is one.
+fn answered(value: Option<u64>) -> Asked
+    ensures { result ≡ rule.asked_of 0 (ask.due value) }
+{
+    match value {
+        Some(value) => Asked {
+            value,
+            refused: 0,
+            known: true,
+        },
+        None => Asked {
+            value: 0,
+            refused: 0,
+            known: false,
+        },
+    }
 }
 
 // Whether `BUSY_N` is low at a time: 1 where it is.
@@ -309,13 +344,9 @@ pub extern "C" fn jollanqe_take(chip: Handed, rows: &[u64]) -> Given
 pub extern "C" fn jollanqe_busy(chip: Handed, at: u64) -> Asked
     ensures { (b : Buffers) → result ≡ rule.asked (ask.ask_busy at) chip b }
 {
-    let p = taken(chip);
-    let b = busy_pin(p, at);
-    let refused = b.refused;
-    Asked {
-        value: b.busy as u64,
-        refused: refused.number(),
-        known: refused.none(),
+    match busy_pin(taken(chip), at) {
+        Ok(low) => answered(Some(u64::from(low))),
+        Err(refusal) => unasked(refusal),
     }
 }
 
@@ -331,30 +362,9 @@ pub extern "C" fn jollanqe_picture(
     ensures wide_after { (b : Buffers) → ask.wide wide.new
         ≡ ask.answered (ask.ask_picture top wide.old) (world (record_taken chip) (with_states states.now b)) }
 {
-    let p = taken(chip);
-    let refused = wide_picture(p, states, wide, top);
-    Asked {
-        value: 0,
-        refused: refused.number(),
-        known: refused.none(),
-    }
-}
-
-fn due_asked(refused: Refusal, due: Due) -> Asked
-    ensures { result ≡ rule.asked_of (refusal_number refused) (ask.due due) }
-{
-    let no = refused.number();
-    match due {
-        Due::Never => Asked {
-            value: 0,
-            refused: no,
-            known: false,
-        },
-        Due::At(time) => Asked {
-            value: time,
-            refused: no,
-            known: true,
-        },
+    match wide_picture(taken(chip), states, wide, top) {
+        Ok(()) => answered(Some(0)),
+        Err(refusal) => unasked(refusal),
     }
 }
 
@@ -363,28 +373,9 @@ fn due_asked(refused: Refusal, due: Due) -> Asked
 pub extern "C" fn jollanqe_deadline(chip: Handed) -> Asked
     ensures { (b : Buffers) → result ≡ rule.asked ask.ask_deadline chip b }
 {
-    let p = taken(chip);
-    let d = next_deadline(p);
-    let refused = d.refused;
-    let due = d.due;
-    due_asked(refused, due)
-}
-
-fn found_asked(refused: Refusal, found: Found) -> Asked
-    ensures { result ≡ rule.asked_of (refusal_number refused) (ask.bit found) }
-{
-    let no = refused.number();
-    match found {
-        Found::Bit(bit) => Asked {
-            value: bit as u64,
-            refused: no,
-            known: true,
-        },
-        Found::Nothing => Asked {
-            value: 0,
-            refused: no,
-            known: false,
-        },
+    match next_deadline(taken(chip)) {
+        Ok(due) => answered(due),
+        Err(refusal) => unasked(refusal),
     }
 }
 
@@ -394,9 +385,9 @@ pub extern "C" fn jollanqe_bit(chip: Handed, plane: &[u8], x: u16, y: u16) -> As
     ensures value { (b : Buffers) → result ≡ rule.asked (ask.ask_bit true x y) chip (with_old plane.now b) }
     ensures value_2 { (b : Buffers) → result ≡ rule.asked (ask.ask_bit false x y) chip (with_new plane.now b) }
 {
-    let p = taken(chip);
-    let b = ram_bit(p, plane, x, y);
-    let refused = b.refused;
-    let found = b.found;
-    found_asked(refused, found)
+    match ram_bit(taken(chip), plane, x, y) {
+        Ok(Some(bit)) => answered(Some(u64::from(bit))),
+        Ok(None) => answered(None),
+        Err(refusal) => unasked(refusal),
+    }
 }

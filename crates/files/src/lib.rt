@@ -7,6 +7,6 @@ mod stream;
 mod writing;
 
 pub use naming::{Shown, path, tell};
-pub use reading::{Got, Reading, is_input, open_read, read, read_line};
+pub use reading::{Got, Line, is_input, open_read, read, read_line};
 pub use stream::Stream;
 pub use writing::{close, create, open};

@@ -1,156 +1,118 @@
 // Files by name, and lines of standard input. What fails is said on standard error by name.
-ghost use Rattle.std.specs.Prelude.{◌≡◌, ℕ, ◌≤◌, IfOk, IsUtf8};
+ghost use Rattle.std.specs.Prelude.{◌≡◌, IfOk, IfSome, IsUtf8};
 ghost use Rattle.files.specs.Reading as rule;
 
 use crate::naming::{path, tell};
-use input::{Input, read_all};
-use std::io::{Error, Read};
+use input::read_all;
+use std::io::Read;
 use std::rt::Files;
 use std::{fs, io};
 
-#[derive(Clone, Copy)]
-pub enum Reading {
-    // A line of so many bytes, without its end.
-    Line(usize),
+// A line of an input.
+#[derive(Clone, Copy, Debug, PartialEq, Eq)]
+pub enum Line {
+    // So many bytes, without its end.
+    Whole(usize),
     TooLong,
-    End,
-    // The system refused a read, and why.
-    Failed(Error),
 }
 
 // What reading a file gave: so many bytes at the buffer's start; and how many there are in all,
 // where that is more.
-#[derive(Clone, Copy)]
-pub enum Got {
-    Bytes(usize, u64),
-    // It could not be opened or read, which was said.
-    Failed,
+#[derive(Clone, Copy, Debug, PartialEq, Eq)]
+pub struct Got {
+    pub held: usize,
+    pub bytes: u64,
 }
 
-// What `byte` gives where there is no byte.
-const OVER: u16 = 256;
-
-const NEWLINE: u16 = 10;
-
-fn wide(b: u8) -> u16
-    ensures { result ≤ 255 }
-{
-    b as u16
-}
-
-// One byte, or the end of the input, or that the read failed.
-fn byte<I: Read>(input: &mut I) -> io::Result<u16>
-    ensures { IfOk result (λ b. b ≤ 256) }
-{
+// One byte, or the end of the input.
+fn byte<I: Read>(input: &mut I) -> io::Result<Option<u8>> {
     let mut one = [0u8; 1];
     let n = input.read(&mut one)?;
-    if n == 0 {
-        return Ok(OVER);
-    }
-    Ok(wide(one[0]))
+    Ok(one[..n].first().copied())
 }
 
 // The input ends behind so many bytes of a line.
-fn line_of(held: usize) -> Reading
+fn line_of(held: usize) -> Option<Line>
     ensures { result ≡ rule.line_of held }
 {
     if held == 0 {
-        return Reading::End;
+        None
+    } else {
+        Some(Line::Whole(held))
     }
-    Reading::Line(held)
 }
 
-// The rest of a line that is too long.
-fn pass_line<I: Read>(input: &mut I) -> Reading
-    ensures { (n : ℕ) → rule.Ends n result }
+// The rest of a line that is too long. Nothing says that an input ends, so the turns are counted.
+fn pass_line<I: Read>(input: &mut I) -> io::Result<Line>
+    ensures { IfOk result (λ line. line ≡ Line.TooLong) }
 {
-    let mut turns = base::TOP;
-    while 0 < turns {
-        let b = match byte(input) {
-            Ok(b) => b,
-            Err(error) => return Reading::Failed(error),
-        };
-        if b == OVER {
-            return Reading::TooLong;
+    for _ in 0..u64::MAX {
+        if matches!(byte(input)?, None | Some(b'\n')) {
+            break;
         }
-        if b == NEWLINE {
-            return Reading::TooLong;
-        }
-        turns -= 1;
     }
-    Reading::TooLong
+    Ok(Line::TooLong)
 }
 
 // Behind the bytes of a line that fill their space.
-fn past_full<I: Read>(input: &mut I, held: usize) -> Reading
+fn past_full<I: Read>(input: &mut I, held: usize) -> io::Result<Option<Line>>
     ensures { rule.Ends held result }
 {
-    let b = match byte(input) {
-        Ok(b) => b,
-        Err(error) => return Reading::Failed(error),
-    };
-    if b == OVER {
-        return line_of(held);
+    match byte(input)? {
+        None => Ok(line_of(held)),
+        Some(b'\n') => Ok(Some(Line::Whole(held))),
+        Some(_) => Ok(Some(pass_line(input)?)),
     }
-    if b == NEWLINE {
-        return Reading::Line(held);
-    }
-    pass_line(input)
 }
 
-// The next line of an input; of one that is too long the rest is passed over.
-pub fn read_line<I: Read>(input: &mut I, line: &mut [u8]) -> Reading
+// The next line of an input, if there is one; of one that is too long the rest is passed over.
+pub fn read_line<I: Read>(input: &mut I, line: &mut [u8]) -> io::Result<Option<Line>>
     ensures { rule.ReadsLine result line.old line.new }
 {
-    let mut held: usize = 0;
-    while held < line.len() {
-        let b = match byte(input) {
-            Ok(b) => b,
-            Err(error) => return Reading::Failed(error),
-        };
-        if b == OVER {
-            return line_of(held);
+    for (held, place) in line.iter_mut().enumerate() {
+        match byte(input)? {
+            None => return Ok(line_of(held)),
+            Some(b'\n') => return Ok(Some(Line::Whole(held))),
+            Some(b) => *place = b,
         }
-        if b == NEWLINE {
-            return Reading::Line(held);
-        }
-        line[held] = (b % 256) as u8;
-        held += 1;
     }
-    past_full(input, held)
+    past_full(input, line.len())
 }
 
-// How many bytes are left of an input, by reading them.
+// How many bytes are left of an input, by reading them; the turns are counted as above.
 fn rest<I: Read>(input: &mut I) -> u64 {
     let mut space = [0u8; 65536];
     let mut count: u64 = 0;
-    let mut turns = base::TOP;
-    while 0 < turns {
+    for _ in 0..u64::MAX {
         let n = input.read(&mut space).unwrap_or(0);
         if n == 0 {
-            return count;
+            break;
         }
-        count = base::saturating_add(count, n as u64);
-        turns -= 1;
+        count = count.saturating_add(n as u64);
     }
     count
 }
 
-// The bytes of an input.
-fn read_from<R: Eprint, I: Read>(rt: &R, input: &mut I, name: &[u8], buffer: &mut [u8]) -> Got
-    ensures { rule.Gives result buffer.new }
+// The bytes of an input; nothing where a read failed, which was said.
+fn read_from<R: Eprint, I: Read>(
+    rt: &R,
+    input: &mut I,
+    name: &[u8],
+    buffer: &mut [u8],
+) -> Option<Got>
+    ensures { IfSome result (λ got. rule.Gives got buffer.new) }
 {
-    let got = read_all(input, buffer);
-    match got {
-        Input::Bytes(n) => {
-            if n < buffer.len() {
-                return Got::Bytes(n, n as u64);
-            }
-            Got::Bytes(n, base::saturating_add(n as u64, rest(input)))
+    match read_all(input, buffer) {
+        Ok(held) => {
+            let more = if held < buffer.len() { 0 } else { rest(input) };
+            Some(Got {
+                held,
+                bytes: (held as u64).saturating_add(more),
+            })
         }
-        Input::Failed(error) => {
+        Err(error) => {
             tell(rt, name, error);
-            Got::Failed
+            None
         }
     }
 }
@@ -159,10 +121,7 @@ fn read_from<R: Eprint, I: Read>(rt: &R, input: &mut I, name: &[u8], buffer: &mu
 pub fn is_input(name: &[u8]) -> bool
     ensures { result ≡ rule.is_input name.now }
 {
-    if name.len() == 1 {
-        return name[0] == b'-';
-    }
-    false
+    matches!(name, [b'-'])
 }
 
 // The file of that name.
@@ -173,9 +132,10 @@ pub fn open_read<R: Files>(rt: &R, name: &[u8]) -> io::Result<R::File>
     fs::open(rt, path)
 }
 
-// The bytes of a file; `-` is standard input.
-pub fn read<R: Files + io::Input + Eprint>(rt: &R, name: &[u8], buffer: &mut [u8]) -> Got
-    ensures { rule.Gives result buffer.new }
+// The bytes of a file; `-` is standard input. Nothing where it could not be opened or read, which was
+// said.
+pub fn read<R: Files + io::Input + Eprint>(rt: &R, name: &[u8], buffer: &mut [u8]) -> Option<Got>
+    ensures { IfSome result (λ got. rule.Gives got buffer.new) }
 {
     if is_input(name) {
         let mut input = rt.reader();
@@ -185,7 +145,7 @@ pub fn read<R: Files + io::Input + Eprint>(rt: &R, name: &[u8], buffer: &mut [u8
         Ok(mut file) => read_from(rt, &mut file, name, buffer),
         Err(error) => {
             tell(rt, name, error);
-            Got::Failed
+            None
         }
     }
 }

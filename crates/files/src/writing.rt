@@ -23,7 +23,7 @@ pub fn open<'a, R: Files + Print + Eprint>(
 ) -> Option<Stream<Printer<'a, R>, R::File>>
     ensures { Opens name.now result }
 {
-    if name.len() == 0 {
+    if name.is_empty() {
         return Some(Stream::Standard(io::writer(rt)));
     }
     match create(rt, name) {
@@ -37,7 +37,7 @@ pub fn open<'a, R: Files + Print + Eprint>(
 
 // Says that a write failed.
 fn fail<R: Eprint>(rt: &R, name: &[u8], error: Error) {
-    if name.len() == 0 {
+    if name.is_empty() {
         tell(rt, b"standard output", error);
         return;
     }

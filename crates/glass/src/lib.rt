@@ -12,8 +12,6 @@ ghost use Rattle.glass.specs.InnerDivision.{Carried};
 ghost use Rattle.glass.specs.Transfer.{act, identity_of, shift_of, then_of};
 ghost use Rattle.glass.specs.Optics.{x3};
 
-use base::{TOP, greatest, least, saturating_add, saturating_sub};
-
 // How the glass answers the waveform.
 #[repr(C)]
 #[derive(Clone, Copy)]
@@ -69,9 +67,9 @@ fn moved(x: u64, up: u64, down: u64) -> u64
     ensures { result ≡ min (x + up - down) top }
 {
     if x < down {
-        saturating_sub(up, down - x)
+        up.saturating_sub(down - x)
     } else {
-        saturating_add(x - down, up)
+        (x - down).saturating_add(up)
     }
 }
 
@@ -80,7 +78,7 @@ fn net(a: u64, b: u64, c: u64, d: u64) -> u64
     ensures { result ≡ min (a + b - (c + d)) top }
 {
     if a < c {
-        saturating_sub(saturating_sub(b, d), c - a)
+        b.saturating_sub(d).saturating_sub(c - a)
     } else {
         moved(a - c, b, d)
     }
@@ -124,8 +122,7 @@ impl Transfer {
     pub fn apply(self, state: u64) -> u64
         ensures { result ≡ act self state }
     {
-        let y = moved(state, self.up, self.down);
-        greatest(self.lo, least(y, self.hi))
+        moved(state, self.up, self.down).min(self.hi).max(self.lo)
     }
 
     // This run, and then the next: held to lo ..= hi and moved, a state is moved first and held to
@@ -140,6 +137,16 @@ impl Transfer {
             hi: next.apply(self.hi),
         }
     }
+}
+
+// The transfers of the four tables that drive pixels: white stays white, black to white, white to
+// black, black stays black.
+#[derive(Clone, Copy)]
+pub struct Transfers {
+    pub ww: Transfer,
+    pub kw: Transfer,
+    pub wk: Transfer,
+    pub kk: Transfer,
 }
 
 // The state of a grey: swing * gray / 255 by split quotients, since the product may pass 64 bits.
@@ -189,9 +196,7 @@ fn gray_wide(state: u64, swing: u64, top: u64, digits: u32) -> u64
 {
     let mut q: u64 = 0;
     let mut r: u64 = 0;
-    let mut left = digits;
-    while 0 < left {
-        left -= 1;
+    for left in (0..digits).rev() {
         let twice = carried(r, r, swing);
         let more = carried(twice.rest, counted(top >> left, state), swing);
         q = 2 * q + twice.carry + more.carry;

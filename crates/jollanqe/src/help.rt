@@ -1,91 +1,43 @@
 // What the program says of itself.
 use files::{Shown, tell};
 
-fn line<R: Print>(rt: &R, text: &[u8]) {
-    let _ = rt.write_all(text);
-}
+const HEAD: &str =
+    "jollanqe: what an e-paper controller and its glass make of a capture or a dump\n\n";
 
-// Every word.
+// A line of each word, or two.
+const WORDS: [&str; 21] = [
+    "  jollanqe help                 this\n",
+    "  jollanqe lines FILE           reads, diagnostics and the last picture, as text\n",
+    "  jollanqe pgm FILE [TOP]       the last picture as a graymap (Netpbm P5), its white at\n",
+    "                                TOP, 1 to 65,535 (0: 255); none: the 8-bit picture\n",
+    "  jollanqe png FILE [TOP]       the last picture as a PNG file; TOP is 255 or 65,535\n",
+    "  jollanqe pictures FILE DIR    every picture, as DIR/GENERATION.png, with a line each\n",
+    "  jollanqe cuts FILE            the refreshes that reset cut: when, after how many whole\n",
+    "                                frames, of how many\n",
+    "  jollanqe config FILE          the 312 bytes of the configuration, for vcd\n",
+    "  jollanqe vcd CONFIG FILE [lines | pgm [TOP] | png [TOP]]\n",
+    "                                the panel of a configuration after a dump of an analyser\n",
+    "                                (Value Change Dump, timescale 1 ns): its lines, or its last\n",
+    "                                picture\n",
+    "  jollanqe compare FILE FILE    the first event, row or pixel in which two captures\n",
+    "                                differ, and how many pixels do\n",
+    "  jollanqe                      jobs from standard input, one a line, as above without\n",
+    "                                the first word; '> NAME' at a line's end writes there\n",
+    "\n",
+    "A FILE that is - is standard input, but not in a line of the batch. Panels go up to\n",
+    "800 by 600. What is turned back gives 'refused N' on standard output and the\n",
+    "words on standard error; no file is written for it. docs/FORMAT.md has the format.\n",
+];
+
+// Every word. Where the first line could not be written the rest is not tried.
 pub(crate) fn say<R: Print + Eprint>(rt: &R) {
-    let first = rt.write_all(
-        b"jollanqe: what an e-paper controller and its glass make of a capture or a dump\n\n",
-    );
-    if let Err(error) = first {
+    if let Err(error) = rt.write_all(HEAD.as_bytes()) {
         tell(rt, b"standard output", error);
         return;
     }
-    line(rt, b"  jollanqe help                 this\n");
-    line(
-        rt,
-        b"  jollanqe lines FILE           reads, diagnostics and the last picture, as text\n",
-    );
-    line(
-        rt,
-        b"  jollanqe pgm FILE [TOP]       the last picture as a graymap (Netpbm P5), its white at\n",
-    );
-    line(
-        rt,
-        b"                                TOP, 1 to 65,535 (0: 255); none: the 8-bit picture\n",
-    );
-    line(
-        rt,
-        b"  jollanqe png FILE [TOP]       the last picture as a PNG file; TOP is 255 or 65,535\n",
-    );
-    line(
-        rt,
-        b"  jollanqe pictures FILE DIR    every picture, as DIR/GENERATION.png, with a line each\n",
-    );
-    line(
-        rt,
-        b"  jollanqe cuts FILE            the refreshes that reset cut: when, after how many whole\n",
-    );
-    line(rt, b"                                frames, of how many\n");
-    line(
-        rt,
-        b"  jollanqe config FILE          the 312 bytes of the configuration, for vcd\n",
-    );
-    line(
-        rt,
-        b"  jollanqe vcd CONFIG FILE [lines | pgm [TOP] | png [TOP]]\n",
-    );
-    line(
-        rt,
-        b"                                the panel of a configuration after a dump of an analyser\n",
-    );
-    line(
-        rt,
-        b"                                (Value Change Dump, timescale 1 ns): its lines, or its last\n",
-    );
-    line(rt, b"                                picture\n");
-    line(
-        rt,
-        b"  jollanqe compare FILE FILE    the first event, row or pixel in which two captures\n",
-    );
-    line(
-        rt,
-        b"                                differ, and how many pixels do\n",
-    );
-    line(
-        rt,
-        b"  jollanqe                      jobs from standard input, one a line, as above without\n",
-    );
-    line(
-        rt,
-        b"                                the first word; '> NAME' at a line's end writes there\n",
-    );
-    line(rt, b"\n");
-    line(
-        rt,
-        b"A FILE that is - is standard input, but not in a line of the batch. Panels go up to\n",
-    );
-    line(
-        rt,
-        b"800 by 600. What is turned back gives 'refused N' on standard output and the\n",
-    );
-    line(
-        rt,
-        b"words on standard error; no file is written for it. docs/FORMAT.md has the format.\n",
-    );
+    for line in WORDS {
+        let _ = rt.write_all(line.as_bytes());
+    }
 }
 
 // What a word wanted, with an example.

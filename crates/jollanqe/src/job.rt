@@ -1,7 +1,8 @@
 // One job: a word, its files, and where it writes.
+use crate::buffers::Buffers;
 use crate::replay::Watch;
 use crate::task::Task;
-use crate::words::{Top, count, same, top_in, word};
+use crate::words::{count, top_in, word};
 use crate::{comparing, help, task};
 use files::is_input;
 use shades::Tone;
@@ -13,7 +14,7 @@ use std::rt::Files;
 pub(crate) enum Word {
     Help,
     // A task on one capture.
-    Task(Task),
+    Task(Task<'static>),
     // Its last picture, perhaps at a top.
     Picture(Form),
     Pictures,
@@ -22,10 +23,9 @@ pub(crate) enum Word {
     Unknown,
 }
 
-// What is written of a dump, or of a picture.
-#[derive(Clone, Copy)]
-enum Chosen {
-    Tone(Tone),
+// Why the words say nothing of what is written of a dump, or of a picture.
+#[derive(Clone, Copy, Debug, PartialEq, Eq)]
+enum ToneError {
     // There is no such word, or too many or too few.
     Wrong,
     // A top that is none, or that a PNG file cannot have.
@@ -35,395 +35,238 @@ enum Chosen {
 
 // As the panel has it: the lines, or the 8-bit picture.
 fn plain(form: Form) -> Tone {
-    Tone {
-        form,
-        wide: false,
-        top: 0,
-    }
+    Tone { form, top: None }
 }
 
 fn sort(w: &[u8]) -> Word {
-    if same(w, b"help") {
-        return Word::Help;
+    match w {
+        b"help" => Word::Help,
+        b"lines" => Word::Task(Task::Show(plain(Form::Lines))),
+        b"pgm" => Word::Picture(Form::Graymap),
+        b"png" => Word::Picture(Form::Png),
+        b"cuts" => Word::Task(Task::Watch(Watch::Cuts)),
+        b"config" => Word::Task(Task::Config),
+        b"pictures" => Word::Pictures,
+        b"compare" => Word::Compare,
+        b"vcd" => Word::Dump,
+        _ => Word::Unknown,
     }
-    if same(w, b"lines") {
-        return Word::Task(Task::Show(plain(Form::Lines)));
-    }
-    if same(w, b"pgm") {
-        return Word::Picture(Form::Graymap);
-    }
-    if same(w, b"png") {
-        return Word::Picture(Form::Png);
-    }
-    if same(w, b"cuts") {
-        return Word::Task(Task::Watch(Watch::Cuts));
-    }
-    if same(w, b"config") {
-        return Word::Task(Task::Config);
-    }
-    if same(w, b"pictures") {
-        return Word::Pictures;
-    }
-    if same(w, b"compare") {
-        return Word::Compare;
-    }
-    if same(w, b"vcd") {
-        return Word::Dump;
-    }
-    Word::Unknown
 }
 
-// How many words a job of the batch has before `> NAME`, if that ends it.
-fn before_target(line: &[u8], in_batch: bool) -> usize {
-    let n = count(line);
-    if !in_batch {
-        return n;
-    }
-    if n < 3 {
-        return n;
-    }
-    if same(word(line, n - 2), b">") {
-        return n - 2;
-    }
-    n
+// A job's line, and whether it is one of the batch.
+#[derive(Clone, Copy)]
+pub(crate) struct Job<'a> {
+    pub(crate) line: &'a [u8],
+    pub(crate) in_batch: bool,
 }
 
-// The name behind `>`; empty where there is none.
-fn target(line: &[u8], in_batch: bool) -> &[u8] {
-    let n = count(line);
-    if before_target(line, in_batch) < n {
-        return word(line, n - 1);
+impl<'a> Job<'a> {
+    fn word(self, k: usize) -> &'a [u8] {
+        word(self.line, k)
     }
-    &line[0..0]
-}
 
-// Whether a job of the batch names standard input, which is the batch itself.
-fn takes_batch<R: Eprint>(rt: &R, name: &[u8], in_batch: bool) -> bool {
-    if !in_batch {
-        return false;
+    // How many words a job of the batch has before `> NAME`, if that ends it.
+    fn before_target(self) -> usize {
+        let n = count(self.line);
+        if self.in_batch && 3 <= n && self.word(n - 2) == b">".as_slice() {
+            return n - 2;
+        }
+        n
     }
-    if is_input(name) {
-        help::wanted(rt, "standard input is the batch itself: name a file");
-        return true;
+
+    // The name behind `>`; empty where there is none.
+    fn target(self) -> &'a [u8] {
+        let n = count(self.line);
+        if self.before_target() < n {
+            return self.word(n - 1);
+        }
+        b""
     }
-    false
+
+    // Whether a job of the batch names standard input, which is the batch itself.
+    fn takes_batch<R: Eprint>(self, rt: &R, name: &[u8]) -> bool {
+        let taken = self.in_batch && is_input(name);
+        if taken {
+            help::wanted(rt, "standard input is the batch itself: name a file");
+        }
+        taken
+    }
+
+    // Whether two files and an output cannot be those of one job.
+    fn clash<R: Eprint>(self, rt: &R, a: &[u8], b: &[u8]) -> bool {
+        let out = self.target();
+        self.takes_batch(rt, a)
+            || self.takes_batch(rt, b)
+            || both_input(rt, a, b)
+            || writes_over(rt, a, out)
+            || writes_over(rt, b, out)
+    }
 }
 
 // Whether a job would write over a file that it reads.
 fn writes_over<R: Eprint>(rt: &R, name: &[u8], out: &[u8]) -> bool {
-    if same(name, out) {
+    if name == out {
         help::wanted(rt, "an input would be written over: name another file");
         return true;
     }
     false
 }
 
-// Whether a top is one of a PNG file's whites: 255, for which 0 stands, and 65,535.
-fn is_png_top(top: u16) -> bool {
-    match top {
-        0 | 255 | 65_535 => true,
-        _ => false,
+// Whether both files are standard input, which can be read once.
+fn both_input<R: Eprint>(rt: &R, a: &[u8], b: &[u8]) -> bool {
+    let both = is_input(a) && is_input(b);
+    if both {
+        help::wanted(rt, "standard input can be one of the two files, not both");
     }
+    both
 }
 
-// A form at this top.
-fn at_top(form: Form, top: u16) -> Chosen {
-    let chosen = Chosen::Tone(Tone {
+// A form at this top: a PNG file's white is 255, for which 0 stands, or 65,535.
+fn at_top(form: Form, top: u16) -> Result<Tone, ToneError> {
+    let tone = Tone {
         form,
-        wide: true,
-        top,
-    });
-    match form {
-        Form::Png => {
-            if is_png_top(top) {
-                return chosen;
-            }
-            Chosen::NoPng
-        }
-        _ => chosen,
+        top: Some(top),
+    };
+    match (form, top) {
+        (Form::Png, 0 | 255 | 65_535) => Ok(tone),
+        (Form::Png, _) => Err(ToneError::NoPng),
+        _ => Ok(tone),
     }
 }
 
 // A picture by the n words of a line, of which number `at` is the top, if there is one.
-fn tone(form: Form, line: &[u8], n: usize, at: usize) -> Chosen {
+fn tone(form: Form, line: &[u8], n: usize, at: usize) -> Result<Tone, ToneError> {
     if n == at {
-        return Chosen::Tone(plain(form));
+        return Ok(plain(form));
     }
-    if n < at {
-        return Chosen::Wrong;
+    if n < at || 1 < n - at {
+        return Err(ToneError::Wrong);
     }
-    if 1 < n - at {
-        return Chosen::Wrong;
-    }
-    let t = top_in(word(line, at));
-    match t {
-        Top::Is(top) => at_top(form, top),
-        Top::No => Chosen::NoTop,
-    }
+    at_top(form, top_in(word(line, at)).ok_or(ToneError::NoTop)?)
 }
 
 // A word of one file.
 fn one_file<R: Files + Input + Print + Eprint>(
     rt: &R,
-    task: Task,
-    line: &[u8],
-    in_batch: bool,
-    file: &mut [u8],
-    old: &mut [u8],
-    new: &mut [u8],
-    states: &mut [i64],
-    picture: &mut [u8],
-    rows: &mut [u64],
+    task: Task<'_>,
+    job: Job<'_>,
+    buffers: &mut Buffers<'_>,
 ) {
-    if before_target(line, in_batch) != 2 {
-        help::wants_file(rt, word(line, 0));
+    if job.before_target() != 2 {
+        help::wants_file(rt, job.word(0));
         return;
     }
-    with_file(
-        rt, task, line, in_batch, file, old, new, states, picture, rows,
-    );
+    with_file(rt, task, job, buffers);
 }
 
 // The picture of one file, perhaps at a top.
 fn one_picture<R: Files + Input + Print + Eprint>(
     rt: &R,
     form: Form,
-    line: &[u8],
-    in_batch: bool,
-    file: &mut [u8],
-    old: &mut [u8],
-    new: &mut [u8],
-    states: &mut [i64],
-    picture: &mut [u8],
-    rows: &mut [u64],
+    job: Job<'_>,
+    buffers: &mut Buffers<'_>,
 ) {
-    let c = tone(form, line, before_target(line, in_batch), 2);
-    match c {
-        Chosen::Tone(tone) => with_file(
-            rt,
-            Task::Show(tone),
-            line,
-            in_batch,
-            file,
-            old,
-            new,
-            states,
-            picture,
-            rows,
-        ),
-        Chosen::Wrong => help::wants_picture(rt, word(line, 0)),
-        Chosen::NoTop => help::wants_top(rt),
-        Chosen::NoPng => help::no_png(rt),
+    match tone(form, job.line, job.before_target(), 2) {
+        Ok(tone) => with_file(rt, Task::Show(tone), job, buffers),
+        Err(ToneError::Wrong) => help::wants_picture(rt, job.word(0)),
+        Err(ToneError::NoTop) => help::wants_top(rt),
+        Err(ToneError::NoPng) => help::no_png(rt),
     }
 }
 
 // The file that a line names.
 fn with_file<R: Files + Input + Print + Eprint>(
     rt: &R,
-    task: Task,
-    line: &[u8],
-    in_batch: bool,
-    file: &mut [u8],
-    old: &mut [u8],
-    new: &mut [u8],
-    states: &mut [i64],
-    picture: &mut [u8],
-    rows: &mut [u64],
+    task: Task<'_>,
+    job: Job<'_>,
+    buffers: &mut Buffers<'_>,
 ) {
-    let name = word(line, 1);
-    if takes_batch(rt, name, in_batch) {
+    let name = job.word(1);
+    let out = job.target();
+    if job.takes_batch(rt, name) || writes_over(rt, name, out) {
         return;
     }
-    let out = target(line, in_batch);
-    if writes_over(rt, name, out) {
-        return;
-    }
-    task::run(
-        rt,
-        task,
-        name,
-        &line[0..0],
-        out,
-        file,
-        old,
-        new,
-        states,
-        picture,
-        rows,
-    );
+    task::run(rt, task, name, out, buffers.file, &mut buffers.lent);
 }
 
 // A file and a folder.
-fn into_folder<R: Files + Input + Print + Eprint>(
-    rt: &R,
-    line: &[u8],
-    in_batch: bool,
-    file: &mut [u8],
-    old: &mut [u8],
-    new: &mut [u8],
-    states: &mut [i64],
-    picture: &mut [u8],
-    rows: &mut [u64],
-) {
-    if before_target(line, in_batch) != 3 {
+fn into_folder<R: Files + Input + Print + Eprint>(rt: &R, job: Job<'_>, buffers: &mut Buffers<'_>) {
+    if job.before_target() != 3 {
         help::wanted(
             rt,
             "pictures wants a file and a folder, as in: jollanqe pictures night.capture night",
         );
         return;
     }
-    let name = word(line, 1);
-    if takes_batch(rt, name, in_batch) {
-        return;
-    }
-    let dir = word(line, 2);
-    let out = target(line, in_batch);
-    if writes_over(rt, name, out) {
-        return;
-    }
-    task::run(
-        rt,
-        Task::Watch(Watch::Pictures),
-        name,
-        dir,
-        out,
-        file,
-        old,
-        new,
-        states,
-        picture,
-        rows,
-    );
-}
-
-// Whether both files are standard input, which can be read once.
-fn both_input<R: Eprint>(rt: &R, a: &[u8], b: &[u8]) -> bool {
-    if !is_input(a) {
-        return false;
-    }
-    if is_input(b) {
-        help::wanted(rt, "standard input can be one of the two files, not both");
-        return true;
-    }
-    false
-}
-
-// Whether two files and an output cannot be those of one job.
-fn clash<R: Eprint>(rt: &R, a: &[u8], b: &[u8], out: &[u8], in_batch: bool) -> bool {
-    if takes_batch(rt, a, in_batch) {
-        return true;
-    }
-    if takes_batch(rt, b, in_batch) {
-        return true;
-    }
-    if both_input(rt, a, b) {
-        return true;
-    }
-    if writes_over(rt, a, out) {
-        return true;
-    }
-    writes_over(rt, b, out)
+    with_file(rt, Task::Watch(Watch::Pictures(job.word(2))), job, buffers);
 }
 
 // Two files.
-fn two_files<R: Files + Input + Print + Eprint>(
-    rt: &R,
-    line: &[u8],
-    in_batch: bool,
-    file: &mut [u8],
-    other: &mut [u8],
-    old: &mut [u8],
-    new: &mut [u8],
-    states: &mut [i64],
-    picture: &mut [u8],
-    other_picture: &mut [u8],
-    rows: &mut [u64],
-    other_rows: &mut [u64],
-) {
-    if before_target(line, in_batch) != 3 {
+fn two_files<R: Files + Input + Print + Eprint>(rt: &R, job: Job<'_>, buffers: &mut Buffers<'_>) {
+    if job.before_target() != 3 {
         help::wanted(
             rt,
             "compare wants two files, as in: jollanqe compare good.capture bad.capture",
         );
         return;
     }
-    let a = word(line, 1);
-    let b = word(line, 2);
-    let out = target(line, in_batch);
-    if clash(rt, a, b, out, in_batch) {
-        return;
+    let a = job.word(1);
+    let b = job.word(2);
+    if !job.clash(rt, a, b) {
+        let lent = &mut buffers.lent;
+        comparing::run(
+            rt,
+            a,
+            b,
+            job.target(),
+            buffers.file,
+            buffers.other,
+            lent.old,
+            lent.new,
+            lent.states,
+            lent.picture,
+            buffers.other_picture,
+            lent.rows,
+            buffers.other_rows,
+        );
     }
-    comparing::run(
-        rt,
-        a,
-        b,
-        out,
-        file,
-        other,
-        old,
-        new,
-        states,
-        picture,
-        other_picture,
-        rows,
-        other_rows,
-    );
 }
 
-// What `vcd` writes, by the words behind its two files: the lines where there are none.
-fn choose(line: &[u8], n: usize) -> Chosen {
-    if n < 3 {
-        return Chosen::Wrong;
+// What `vcd` writes, by the n words of its line: the lines where none stands behind its two files.
+fn choose(line: &[u8], n: usize) -> Result<Tone, ToneError> {
+    match (n, word(line, 3)) {
+        (0..=2, _) => Err(ToneError::Wrong),
+        (3, _) => Ok(plain(Form::Lines)),
+        (_, b"pgm") => tone(Form::Graymap, line, n, 4),
+        (_, b"png") => tone(Form::Png, line, n, 4),
+        (4, b"lines") => Ok(plain(Form::Lines)),
+        _ => Err(ToneError::Wrong),
     }
-    if n == 3 {
-        return Chosen::Tone(plain(Form::Lines));
-    }
-    let w = word(line, 3);
-    if same(w, b"pgm") {
-        return tone(Form::Graymap, line, n, 4);
-    }
-    if same(w, b"png") {
-        return tone(Form::Png, line, n, 4);
-    }
-    if n != 4 {
-        return Chosen::Wrong;
-    }
-    if same(w, b"lines") {
-        return Chosen::Tone(plain(Form::Lines));
-    }
-    Chosen::Wrong
 }
 
 // A configuration and a dump.
-fn dump<R: Files + Input + Print + Eprint>(
-    rt: &R,
-    line: &[u8],
-    in_batch: bool,
-    file: &mut [u8],
-    other: &mut [u8],
-    old: &mut [u8],
-    new: &mut [u8],
-    states: &mut [i64],
-    picture: &mut [u8],
-    rows: &mut [u64],
-) {
-    let c = choose(line, before_target(line, in_batch));
-    match c {
-        Chosen::Tone(tone) => {
-            let config = word(line, 1);
-            let name = word(line, 2);
-            let out = target(line, in_batch);
-            if clash(rt, config, name, out, in_batch) {
-                return;
-            }
-            dumping::run(
-                rt, config, name, tone, out, file, other, old, new, states, picture, rows,
-            );
-        }
-        Chosen::Wrong => help::wants_dump(rt),
-        Chosen::NoTop => help::wants_top(rt),
-        Chosen::NoPng => help::no_png(rt),
+fn dump<R: Files + Input + Print + Eprint>(rt: &R, job: Job<'_>, buffers: &mut Buffers<'_>) {
+    let tone = match choose(job.line, job.before_target()) {
+        Ok(tone) => tone,
+        Err(ToneError::Wrong) => return help::wants_dump(rt),
+        Err(ToneError::NoTop) => return help::wants_top(rt),
+        Err(ToneError::NoPng) => return help::no_png(rt),
+    };
+    let config = job.word(1);
+    let name = job.word(2);
+    if job.clash(rt, config, name) {
+        return;
     }
+    dumping::run(
+        rt,
+        config,
+        name,
+        tone,
+        job.target(),
+        buffers.file,
+        buffers.other,
+        &mut buffers.lent,
+    );
 }
 
 // `help` stands alone.
@@ -438,48 +281,20 @@ fn say_help<R: Print + Eprint>(rt: &R, line: &[u8]) {
 // The job of a line.
 pub(crate) fn run<R: Files + Input + Print + Eprint>(
     rt: &R,
-    line: &[u8],
-    in_batch: bool,
-    file: &mut [u8],
-    other: &mut [u8],
-    old: &mut [u8],
-    new: &mut [u8],
-    states: &mut [i64],
-    picture: &mut [u8],
-    other_picture: &mut [u8],
-    rows: &mut [u64],
-    other_rows: &mut [u64],
+    job: Job<'_>,
+    buffers: &mut Buffers<'_>,
 ) {
-    if count(line) == 0 {
+    if count(job.line) == 0 {
         return;
     }
-    let w = sort(word(line, 0));
-    match w {
-        Word::Help => say_help(rt, line),
-        Word::Task(task) => one_file(
-            rt, task, line, in_batch, file, old, new, states, picture, rows,
-        ),
-        Word::Picture(form) => one_picture(
-            rt, form, line, in_batch, file, old, new, states, picture, rows,
-        ),
-        Word::Pictures => into_folder(rt, line, in_batch, file, old, new, states, picture, rows),
-        Word::Compare => two_files(
-            rt,
-            line,
-            in_batch,
-            file,
-            other,
-            old,
-            new,
-            states,
-            picture,
-            other_picture,
-            rows,
-            other_rows,
-        ),
-        Word::Dump => dump(
-            rt, line, in_batch, file, other, old, new, states, picture, rows,
-        ),
-        Word::Unknown => help::no_word(rt, word(line, 0)),
+    let first = job.word(0);
+    match sort(first) {
+        Word::Help => say_help(rt, job.line),
+        Word::Task(task) => one_file(rt, task, job, buffers),
+        Word::Picture(form) => one_picture(rt, form, job, buffers),
+        Word::Pictures => into_folder(rt, job, buffers),
+        Word::Compare => two_files(rt, job, buffers),
+        Word::Dump => dump(rt, job, buffers),
+        Word::Unknown => help::no_word(rt, first),
     }
 }

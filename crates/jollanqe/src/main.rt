@@ -2,6 +2,7 @@
 // from standard input, one a line.
 #![tactic(auto)]
 
+mod buffers;
 mod comparing;
 mod help;
 mod job;
@@ -11,16 +12,20 @@ mod replay;
 mod task;
 mod words;
 
+use buffers::Buffers;
+use controller::Lent;
 use diagnostic_log::ROWS;
-use files::{Reading, read_line, tell};
+use files::{Line, read_line, tell};
 use input::front;
+use job::Job;
 use showing::INPUT;
 use std::env::FillError;
-use std::fs;
 use std::fs::{File, OpenOptions};
 use std::io::{Error, Input, Read};
 use std::os::fd::AsRawFd;
 use std::rt::{Env, Files};
+use std::{fs, io};
+use text::Text;
 
 // The pixels of the largest panel, 800 by 600.
 const PIXELS: usize = 480_000;
@@ -31,20 +36,13 @@ const LINE: usize = 8_192;
 // Room for a word of such a line and for what is put beside it, so that no name is cut short.
 pub(crate) const ROOM: usize = LINE + 64;
 
-// A line of the batch, in which blanks stand between the words: they become zeros, as between
-// arguments.
-fn separate(line: &mut [u8]) {
-    let mut i: usize = 0;
-    while i < line.len() {
-        line[i] = words::unblank(line[i]);
-        i += 1;
-    }
-}
-
-// The next line of standard input.
-fn next_line<I: Read>(input: &mut I, line: &mut [u8]) -> Reading {
+// The next line of standard input, in which blanks stand between the words: they become zeros, as
+// between arguments.
+fn next_line<I: Read>(input: &mut I, line: &mut [u8]) -> io::Result<Option<Line>> {
     let got = read_line(input, line);
-    separate(line);
+    for b in line.iter_mut() {
+        *b = words::unblank(*b);
+    }
     got
 }
 
@@ -53,41 +51,23 @@ fn next_job<R: Files + Input + Print + Eprint, I: Read>(
     rt: &R,
     input: &mut I,
     line: &mut [u8],
-    file: &mut [u8],
-    other: &mut [u8],
-    old: &mut [u8],
-    new: &mut [u8],
-    states: &mut [i64],
-    picture: &mut [u8],
-    other_picture: &mut [u8],
-    rows: &mut [u64],
-    other_rows: &mut [u64],
+    buffers: &mut Buffers<'_>,
 ) -> bool {
-    let got = next_line(input, line);
-    match got {
-        Reading::Line(n) => {
-            job::run(
-                rt,
-                front(line, n),
-                true,
-                file,
-                other,
-                old,
-                new,
-                states,
-                picture,
-                other_picture,
-                rows,
-                other_rows,
-            );
+    match next_line(input, line) {
+        Ok(Some(Line::Whole(n))) => {
+            let job = Job {
+                line: front(line, n),
+                in_batch: true,
+            };
+            job::run(rt, job, buffers);
             true
         }
-        Reading::TooLong => {
+        Ok(Some(Line::TooLong)) => {
             let _ = eprintln!(rt; "a line is longer than 8,192 bytes");
             true
         }
-        Reading::End => false,
-        Reading::Failed(error) => {
+        Ok(None) => false,
+        Err(error) => {
             tell(rt, b"standard input", error);
             false
         }
@@ -99,35 +79,12 @@ fn batch<R: Files + Input + Print + Eprint, I: Read>(
     rt: &R,
     input: &mut I,
     line: &mut [u8],
-    file: &mut [u8],
-    other: &mut [u8],
-    old: &mut [u8],
-    new: &mut [u8],
-    states: &mut [i64],
-    picture: &mut [u8],
-    other_picture: &mut [u8],
-    rows: &mut [u64],
-    other_rows: &mut [u64],
+    buffers: &mut Buffers<'_>,
 ) {
-    let mut turns = base::TOP;
-    while 0 < turns {
-        if !next_job(
-            rt,
-            input,
-            line,
-            file,
-            other,
-            old,
-            new,
-            states,
-            picture,
-            other_picture,
-            rows,
-            other_rows,
-        ) {
+    for _ in 0..u64::MAX {
+        if !next_job(rt, input, line, buffers) {
             return;
         }
-        turns -= 1;
     }
 }
 
@@ -179,11 +136,11 @@ const TOO_LONG: i32 = 36;
 // that is empty or does not fit.
 fn gather<R: Env + Eprint>(rt: &R, line: &mut [u8]) -> usize {
     let mut space = [0u8; 4096];
-    let mut held: usize = 0;
+    let mut text = Text::new(line);
     for i in 1..usize::MAX {
         let n = match rt.arg(i, &mut space) {
             Ok(n) => n,
-            Err(FillError::NotPresent) => return held,
+            Err(FillError::NotPresent) => return text.held(),
             Err(FillError::TooLong) => {
                 tell(rt, b"arguments", Error::from_raw_os_error(TOO_LONG));
                 return 0;
@@ -193,14 +150,14 @@ fn gather<R: Env + Eprint>(rt: &R, line: &mut [u8]) -> usize {
             help::wanted(rt, "one of the words is empty");
             return 0;
         }
-        held = text::put(line, held, front(&space, n));
-        held = text::byte(line, held, 0);
-        if line.len() <= held {
+        text.put(front(&space, n));
+        text.byte(0);
+        if text.is_full() {
             help::wanted(rt, "the words have more than 8,190 bytes together");
             return 0;
         }
     }
-    held
+    text.held()
 }
 
 fn main(rt: HostRuntime) {
@@ -215,37 +172,28 @@ fn main(rt: HostRuntime) {
     let mut rows = [0u64; ROWS];
     let mut other_rows = [0u64; ROWS];
     let _held = hold_streams(&rt);
+    let mut buffers = Buffers {
+        file: &mut file,
+        other: &mut other,
+        lent: Lent {
+            old: &mut old,
+            new: &mut new,
+            states: &mut states,
+            picture: &mut picture,
+            rows: &mut rows,
+        },
+        other_picture: &mut other_picture,
+        other_rows: &mut other_rows,
+    };
     if is_batch(&rt) {
         let mut input = rt.reader();
-        batch(
-            &rt,
-            &mut input,
-            &mut line,
-            &mut file,
-            &mut other,
-            &mut old,
-            &mut new,
-            &mut states,
-            &mut picture,
-            &mut other_picture,
-            &mut rows,
-            &mut other_rows,
-        );
+        batch(&rt, &mut input, &mut line, &mut buffers);
         return;
     }
     let n = gather(&rt, &mut line);
-    job::run(
-        &rt,
-        front(&line, n),
-        false,
-        &mut file,
-        &mut other,
-        &mut old,
-        &mut new,
-        &mut states,
-        &mut picture,
-        &mut other_picture,
-        &mut rows,
-        &mut other_rows,
-    );
+    let job = Job {
+        line: front(&line, n),
+        in_batch: false,
+    };
+    job::run(&rt, job, &mut buffers);
 }

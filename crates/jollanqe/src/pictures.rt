@@ -1,6 +1,6 @@
 // A published picture as a PNG file, and its line.
-ghost use Rattle.std.specs.Prelude.{◌++◌};
-ghost use Rattle.text.specs.Text.{Puts, ascii, digits};
+ghost use Rattle.std.specs.Prelude.{◌≡◌, ◌++◌};
+ghost use Rattle.text.specs.Text.{ascii, digits, put};
 
 use diagnostic_log::Log;
 use files::{create, path, tell};
@@ -10,17 +10,17 @@ use output::{Came, Form, Outcome};
 use std::io::{Error, ErrorKind, Write};
 use std::rt::Files;
 use std::{fs, io};
-use text::{decimal, put};
+use text::Text;
 
 // `DIR/GENERATION.png`
-fn file_name(text: &mut [u8], held: usize, dir: &[u8], generation: u64) -> usize
-    ensures { Puts (dir.now ++ ascii "/" ++ digits generation ++ ascii ".png")
-        held result text.old text.new }
+#[tactic(auto, using(text::proofs::Filling::puts))]
+fn file_name(text: &mut Text<'_>, dir: &[u8], generation: u64)
+    ensures { text.new ≡ put (dir.now ++ ascii "/" ++ digits generation ++ ascii ".png") text.old }
 {
-    let folder = put(text, held, dir);
-    let slash = put(text, folder, b"/");
-    let n = decimal(text, slash, generation);
-    put(text, n, b".png")
+    text.put(dir);
+    text.put(b"/");
+    text.decimal(generation);
+    text.put(b".png");
 }
 
 // What is written of the picture alone: no read and no row stands before it.
@@ -75,29 +75,21 @@ pub(crate) fn keep<R: Files + Eprint>(
     dir: &[u8],
     picture: &[u8],
 ) -> bool {
-    let mut name = [0u8; crate::ROOM];
-    let n = file_name(&mut name, 0, dir, image.generation);
-    write_file(rt, front(&name, n), outcome(image), picture)
+    let mut room = [0u8; crate::ROOM];
+    let mut name = Text::new(&mut room);
+    file_name(&mut name, dir, image.generation);
+    write_file(rt, name.written(), outcome(image), picture)
 }
 
 // Its head, as `panel` writes it: the line behind the dropped count.
 pub(crate) fn say<W: Write>(image: PanelImage, to: &mut W, picture: &[u8]) -> io::Result<()> {
-    let mut text = [0u8; 256];
+    let mut room = [0u8; 256];
+    let mut text = Text::new(&mut room);
     let answers = [0u16; 1];
     let rows = [0u64; 1];
     let o = outcome(image);
-    let n = output::unit(
-        &mut text,
-        0,
-        Form::Lines,
-        o,
-        b"",
-        &answers,
-        picture,
-        &rows,
-        1,
-    );
-    to.write_all(front(&text, n))
+    output::unit(&mut text, Form::Lines, o, b"", &answers, picture, &rows, 1);
+    to.write_all(text.written())
 }
 
 // The folder of that name, which is not there.

@@ -1,60 +1,47 @@
 // A capture's events one by one: the refreshes that reset cuts, or every picture that is published.
-ghost use Rattle.std.specs.Prelude.{◌≤◌};
-
 use crate::pictures;
-use capture::{Capture, EVENT_BYTES};
-use controller::Uc8253;
-use cuts::Found;
+use capture::EVENT_BYTES;
+use controller::{Lent, Uc8253};
 use events::{Event, event_at, step};
 use input::front;
+use std::io;
 use std::io::{Error, Write};
 use std::rt::Files;
-use uc8253::power_on;
+use text::Text;
+use uc8253::{power_on, zeros};
 
 #[derive(Clone, Copy)]
-pub(crate) enum Watch {
+pub(crate) enum Watch<'a> {
     Cuts,
-    Pictures,
+    // Into the folder of that name.
+    Pictures(&'a [u8]),
 }
 
-// How far a replay got.
+// Why a replay stopped.
 #[derive(Clone, Copy)]
-pub(crate) enum Ended {
-    Whole,
+pub(crate) enum Stopped {
     // A write to the output failed, and why.
     Unwritten(Error),
     // A picture's file failed, which was said.
     Said,
 }
 
-// The record after an event, and whether the replay goes on.
-#[derive(Clone, Copy)]
-struct Met {
-    chip: Uc8253,
-    ended: Ended,
-}
-
-fn is_whole(ended: Ended) -> bool {
-    match ended {
-        Ended::Whole => true,
-        Ended::Unwritten(_) => false,
-        Ended::Said => false,
+impl From<Error> for Stopped {
+    fn from(error: Error) -> Stopped {
+        Stopped::Unwritten(error)
     }
 }
 
 // The line of a cut, if the event is one.
-fn say_cut<W: Write>(p: Uc8253, event: Event, to: &mut W) -> Ended {
-    let found = cuts::cut_by(p, event);
-    match found {
-        Found::Cut(c) => {
-            let mut text = [0u8; 128];
-            let n = cuts::line(&mut text, 0, c);
-            match to.write_all(front(&text, n)) {
-                Ok(()) => Ended::Whole,
-                Err(error) => Ended::Unwritten(error),
-            }
+fn say_cut<W: Write>(p: Uc8253, event: Event, to: &mut W) -> io::Result<()> {
+    match cuts::cut_by(p, event) {
+        Some(cut) => {
+            let mut room = [0u8; 128];
+            let mut text = Text::new(&mut room);
+            cuts::line(&mut text, cut);
+            to.write_all(text.written())
         }
-        Found::Nothing => Ended::Whole,
+        None => Ok(()),
     }
 }
 
@@ -67,169 +54,78 @@ fn keep_picture<R: Files + Eprint, W: Write>(
     dir: &[u8],
     to: &mut W,
     picture: &[u8],
-) -> Ended {
+) -> Result<(), Stopped> {
     let image = p.image;
     if image.generation == generation {
-        return Ended::Whole;
+        return Ok(());
     }
     if !pictures::keep(rt, image, dir, picture) {
-        return Ended::Said;
+        return Err(Stopped::Said);
     }
-    match pictures::say(image, to, picture) {
-        Ok(()) => Ended::Whole,
-        Err(error) => Ended::Unwritten(error),
-    }
+    pictures::say(image, to, picture)?;
+    Ok(())
 }
 
-// Asked before the event's call.
-fn before<W: Write>(watch: Watch, p: Uc8253, event: Event, to: &mut W) -> Ended {
-    match watch {
-        Watch::Cuts => say_cut(p, event, to),
-        Watch::Pictures => Ended::Whole,
-    }
-}
-
-// After it, with the generation that the picture had.
-fn after<R: Files + Eprint, W: Write>(
-    rt: &R,
-    watch: Watch,
-    p: Uc8253,
-    generation: u64,
-    dir: &[u8],
-    to: &mut W,
-    picture: &[u8],
-) -> Ended {
-    match watch {
-        Watch::Cuts => Ended::Whole,
-        Watch::Pictures => keep_picture(rt, p, generation, dir, to, picture),
-    }
-}
-
+// A cut is asked before the event's call; a picture after it, with the generation that it had.
 fn meet<R: Files + Eprint, W: Write>(
     rt: &R,
-    watch: Watch,
+    watch: Watch<'_>,
     p: Uc8253,
     event: Event,
-    dir: &[u8],
     to: &mut W,
-    old: &mut [u8],
-    new: &mut [u8],
-    states: &mut [i64],
-    picture: &mut [u8],
-    rows: &mut [u64],
-) -> Met {
-    let first = before(watch, p, event, to);
-    if !is_whole(first) {
-        return Met {
-            chip: p,
-            ended: first,
-        };
+    lent: &mut Lent<'_>,
+) -> Result<Uc8253, Stopped> {
+    if let Watch::Cuts = watch {
+        say_cut(p, event, to)?;
     }
-    let s = step(p, event, old, new, states, picture, rows);
-    let chip = s.chip;
-    let ended = after(rt, watch, chip, p.image.generation, dir, to, picture);
-    Met { chip, ended }
-}
-
-fn meet_all<R: Files + Eprint, W: Write>(
-    rt: &R,
-    watch: Watch,
-    p: Uc8253,
-    events: &[u8],
-    dir: &[u8],
-    to: &mut W,
-    old: &mut [u8],
-    new: &mut [u8],
-    states: &mut [i64],
-    picture: &mut [u8],
-    rows: &mut [u64],
-) -> Ended {
-    let count = events.len() / EVENT_BYTES;
-    let mut chip = p;
-    let mut i: usize = 0;
-    while i < count {
-        let event = event_at(events, i);
-        let m = meet(
-            rt, watch, chip, event, dir, to, old, new, states, picture, rows,
-        );
-        let ended = m.ended;
-        if !is_whole(ended) {
-            return ended;
-        }
-        chip = m.chip;
-        i += 1;
+    let chip = step(p, event, lent).chip;
+    if let Watch::Pictures(dir) = watch {
+        keep_picture(rt, chip, p.image.generation, dir, to, lent.picture)?;
     }
-    Ended::Whole
+    Ok(chip)
 }
 
 // In buffers of the panel's size: there no making of a capture that passed its tests is turned back.
 fn replay_in<R: Files + Eprint, W: Write>(
     rt: &R,
-    watch: Watch,
+    watch: Watch<'_>,
     file: &[u8],
-    c: Capture,
-    dir: &[u8],
     to: &mut W,
-    old: &mut [u8],
-    new: &mut [u8],
-    states: &mut [i64],
-    picture: &mut [u8],
-    rows: &mut [u64],
-) -> Ended {
-    let config = c.config;
-    let made = power_on(config, old, new, states, picture, rows);
-    let chip = made.chip;
-    meet_all(
-        rt,
-        watch,
-        chip,
-        front(file, c.end),
-        dir,
-        to,
-        old,
-        new,
-        states,
-        picture,
-        rows,
-    )
-}
-
-// So many entries of those that there are.
-pub(crate) fn room(most: usize, have: usize) -> usize
-    ensures { result ≤ have }
-{
-    if most < have { most } else { have }
+    lent: &mut Lent<'_>,
+) -> Result<(), Stopped> {
+    let c = capture::read(file);
+    let events = front(file, c.end);
+    let mut chip = power_on(c.config, lent).unwrap_or(zeros());
+    for i in 0..events.len() / EVENT_BYTES {
+        chip = meet(rt, watch, chip, event_at(events, i), to, lent)?;
+    }
+    Ok(())
 }
 
 // A capture that passed its tests, in the front of what is lent.
 pub(crate) fn replay<R: Files + Eprint, W: Write>(
     rt: &R,
-    watch: Watch,
+    watch: Watch<'_>,
     file: &[u8],
-    dir: &[u8],
     to: &mut W,
-    old: &mut [u8],
-    new: &mut [u8],
-    states: &mut [i64],
-    picture: &mut [u8],
-    rows: &mut [u64],
-) -> Ended {
-    let c = capture::read(file);
-    let config = c.config;
-    let pixels = capture::pixels(config);
-    let n = room(pixels, states.len());
-    let q = room(pixels, picture.len());
-    replay_in(
-        rt,
-        watch,
-        file,
-        c,
-        dir,
-        to,
+    lent: &mut Lent<'_>,
+) -> Result<(), Stopped> {
+    let pixels = capture::pixels(capture::config(file));
+    let n = pixels.min(lent.states.len());
+    let q = pixels.min(lent.picture.len());
+    let (old, new, states, picture, rows) = (
+        &mut *lent.old,
+        &mut *lent.new,
+        &mut *lent.states,
+        &mut *lent.picture,
+        &mut *lent.rows,
+    );
+    let mut fitted = Lent {
         old,
         new,
-        &mut states[..n],
-        &mut picture[..q],
+        states: &mut states[..n],
+        picture: &mut picture[..q],
         rows,
-    )
+    };
+    replay_in(rt, watch, file, to, &mut fitted)
 }

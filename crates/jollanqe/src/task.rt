@@ -1,30 +1,30 @@
 // A task on one capture: its lines, its last picture, all its pictures, its cuts, or its
 // configuration.
 use crate::comparing::config_at;
-use crate::replay::{Ended, Watch};
-use crate::{pictures, refusals, replay};
-use files::{Got, tell};
+use crate::replay::{Stopped, Watch, replay};
+use crate::{pictures, refusals};
+use controller::Lent;
+use files::tell;
 use input::front;
 use shades::Tone;
-use showing::{Form, shade, show, tested};
+use showing::{Form, show, tested};
 use std::io;
 use std::io::Write;
 use std::rt::Files;
 
 #[derive(Clone, Copy)]
-pub(crate) enum Task {
+pub(crate) enum Task<'a> {
     Show(Tone),
-    Watch(Watch),
+    Watch(Watch<'a>),
     // The 312 bytes, as they stand.
     Config,
 }
 
 // Whether the output could be written, or what failed was said already.
-fn is_written(ended: Ended) -> io::Result<()> {
+fn unwritten(ended: Result<(), Stopped>) -> io::Result<()> {
     match ended {
-        Ended::Whole => Ok(()),
-        Ended::Unwritten(error) => Err(error),
-        Ended::Said => Ok(()),
+        Err(Stopped::Unwritten(error)) => Err(error),
+        Ok(()) | Err(Stopped::Said) => Ok(()),
     }
 }
 
@@ -34,42 +34,17 @@ fn write_config<W: Write>(capture: &[u8], to: &mut W) -> io::Result<()> {
     to.write_all(config_at(capture, c.end))
 }
 
-// The lines, or the picture, at a top of its own or as it is.
-fn show_by<W: Write>(
-    tone: Tone,
-    capture: &[u8],
-    to: &mut W,
-    old: &mut [u8],
-    new: &mut [u8],
-    states: &mut [i64],
-    picture: &mut [u8],
-    rows: &mut [u64],
-) -> io::Result<()> {
-    let form = tone.form;
-    if tone.wide {
-        return shade(capture, form, tone.top, to, old, new, states, picture, rows);
-    }
-    show(capture, form, to, old, new, states, picture, rows)
-}
-
 // A capture that is not turned back, to an output; the answer is whether that could be written.
 fn write<R: Files + Eprint, W: Write>(
     rt: &R,
-    task: Task,
+    task: Task<'_>,
     capture: &[u8],
-    dir: &[u8],
     to: &mut W,
-    old: &mut [u8],
-    new: &mut [u8],
-    states: &mut [i64],
-    picture: &mut [u8],
-    rows: &mut [u64],
+    lent: &mut Lent<'_>,
 ) -> io::Result<()> {
     match task {
-        Task::Show(tone) => show_by(tone, capture, to, old, new, states, picture, rows),
-        Task::Watch(watch) => is_written(replay::replay(
-            rt, watch, capture, dir, to, old, new, states, picture, rows,
-        )),
+        Task::Show(tone) => show(capture, tone, to, lent),
+        Task::Watch(watch) => unwritten(replay(rt, watch, capture, to, lent)),
         Task::Config => write_config(capture, to),
     }
 }
@@ -77,101 +52,56 @@ fn write<R: Files + Eprint, W: Write>(
 // Its folder, if it has one, and its output are made only here, once nothing turns the capture back.
 fn perform<R: Files + Print + Eprint>(
     rt: &R,
-    task: Task,
+    task: Task<'_>,
     capture: &[u8],
-    dir: &[u8],
     out: &[u8],
-    old: &mut [u8],
-    new: &mut [u8],
-    states: &mut [i64],
-    picture: &mut [u8],
-    rows: &mut [u64],
+    lent: &mut Lent<'_>,
 ) {
-    if dir.len() != 0 {
+    if let Task::Watch(Watch::Pictures(dir)) = task {
         if !pictures::make(rt, dir) {
             return;
         }
     }
-    match files::open(rt, out) {
-        Some(mut to) => {
-            let written = write(
-                rt, task, capture, dir, &mut to, old, new, states, picture, rows,
-            );
-            files::close(rt, out, to, written);
-        }
-        None => {}
+    if let Some(mut to) = files::open(rt, out) {
+        let written = write(rt, task, capture, &mut to, lent);
+        files::close(rt, out, to, written);
     }
 }
 
 // A capture of so many bytes in all, of which the first ones were read.
 fn judge<R: Files + Print + Eprint>(
     rt: &R,
-    task: Task,
+    task: Task<'_>,
     name: &[u8],
     capture: &[u8],
     bytes: u64,
-    dir: &[u8],
     out: &[u8],
-    old: &mut [u8],
-    new: &mut [u8],
-    states: &mut [i64],
-    picture: &mut [u8],
-    rows: &mut [u64],
+    lent: &mut Lent<'_>,
 ) {
-    let refused = tested(Form::Lines, capture);
-    if refused.none() {
-        perform(rt, task, capture, dir, out, old, new, states, picture, rows);
-        return;
-    }
+    let Err(refused) = tested(Form::Lines, capture) else {
+        return perform(rt, task, capture, out, lent);
+    };
+    let lines = Tone {
+        form: Form::Lines,
+        top: None,
+    };
     let mut to = io::writer(rt);
-    let written = show(
-        capture,
-        Form::Lines,
-        &mut to,
-        old,
-        new,
-        states,
-        picture,
-        rows,
-    );
-    if let Err(error) = written {
+    if let Err(error) = show(capture, lines, &mut to, lent) {
         tell(rt, b"standard output", error);
     }
     refusals::tell(rt, name, capture, bytes, refused);
 }
 
-// The capture of that name; the folder is empty where the task has none.
+// The capture of that name, whose bytes are read into the file.
 pub(crate) fn run<R: Files + io::Input + Print + Eprint>(
     rt: &R,
-    task: Task,
+    task: Task<'_>,
     name: &[u8],
-    dir: &[u8],
     out: &[u8],
     file: &mut [u8],
-    old: &mut [u8],
-    new: &mut [u8],
-    states: &mut [i64],
-    picture: &mut [u8],
-    rows: &mut [u64],
+    lent: &mut Lent<'_>,
 ) {
-    let got = files::read(rt, name, file);
-    match got {
-        Got::Bytes(n, bytes) => {
-            judge(
-                rt,
-                task,
-                name,
-                front(file, n),
-                bytes,
-                dir,
-                out,
-                old,
-                new,
-                states,
-                picture,
-                rows,
-            );
-        }
-        Got::Failed => {}
+    if let Some(got) = files::read(rt, name, file) {
+        judge(rt, task, name, front(file, got.held), got.bytes, out, lent);
     }
 }

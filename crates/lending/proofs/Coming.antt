@@ -9,7 +9,9 @@ use lib.Dec.{eqb}
 use lib.IntN.{ℤ}
 use borrow.Author.Tests.{eqb-true}
 use Rattle.base.specs.Pick.{pick}
-use Rattle.base.proofs.RefusalWords.{told}
+use Rattle.base.specs.declared.refusals.Refusal.{Refusal}
+use Rattle.base.specs.RefusalNumbers.{refusal_number}
+use Rattle.base.proofs.RefusalWords.{taken, turned}
 use Rattle.config.specs.Refusal.{refusal}
 use Rattle.config.proofs.RefusalLaws.{accepted}
 use Rattle.pixels.specs.States.{most, every_state}
@@ -70,26 +72,27 @@ ready a t w e =
     let k = none_of (foreign_record w.chip) (lent_fits w.chip.config w.lent) (ends && foreign_contents swing w.lent) e in
     (swing_fits w.chip k.0, λ h. clean ends (every_state swing w.lent.states) h k.1)
 
--- ---- a call that has come: n is the number of its refusal, and z that it is none
-module _ (a : Bool) (t : ℕ) (p : Uc8253) (b : Buffers) {n : ℕ} {z : Bool}
-    (number : n ≡ turned_back a t (world p b)) (none : z ≡ eqb n 0) where
+-- ---- a call that has come
+module _ (a : Bool) (t : ℕ) (p : Uc8253) (b : Buffers) where
   -- what driving asks
-  pub come_ready : z ≡ true → (p.config.optics.full_swing ≤ most)
+  pub come_ready : 0 ≡ turned_back a t (world p b) → (p.config.optics.full_swing ≤ most)
       × (ends_refresh a t p ≡ true → every_state p.config.optics.full_swing b.states ≡ true)
-  come_ready h = ready a t (world p b) (eqb-true (turned_back a t (world p b)) 0 (told none number h))
+  come_ready number = ready a t (world p b) (sym number)
 
   -- and what is lent after it
-  pub come_no : z ≡ false → b ≡ come_to a t p b
+  pub come_no : (r : Refusal) → refusal_number r ≡ turned_back a t (world p b) → b ≡ come_to a t p b
   unfolding come_to
-  come_no h = rw (told none number h)
+  come_no r number = rw (turned r number)
 
-  pub come_yes : {old : List ℕ} {states : List ℤ} {picture : List ℕ} → z ≡ true
-      → old ≡ old_arrived t p b.old b.new
-      → states ≡ states_by (driven_at own a t p) p b.old b.new b.states
-      → picture ≡ picture_by (driven_at own a t p) p states b.picture
-      → buffers old b.new states picture b.rows ≡ come_to a t p b
+  pub come_yes : {m : Buffers} → 0 ≡ turned_back a t (world p b)
+      → m.old ≡ old_arrived t p b.old b.new
+      → m.new ≡ b.new
+      → m.states ≡ states_by (driven_at own a t p) p b.old b.new b.states
+      → m.picture ≡ picture_by (driven_at own a t p) p m.states b.picture
+      → m.rows ≡ b.rows
+      → m ≡ come_to a t p b
   unfolding come_to settled
-  come_yes h eo es ep =
-      rw (told none number h)
-      (λ i. buffers (eo i) b.new (es i)
-      ((ep ∙ ap (λ (s : List ℤ). picture_by (driven_at own a t p) p s b.picture) es) i) b.rows)
+  come_yes number eo en es ep er =
+      rw (taken number)
+      (λ i. buffers (eo i) (en i) (es i)
+      ((ep ∙ ap (λ (s : List ℤ). picture_by (driven_at own a t p) p s b.picture) es) i) (er i))

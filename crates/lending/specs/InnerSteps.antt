@@ -5,7 +5,6 @@ use Rattle.pixels.specs.States.{most, every_state}
 use Rattle.controller.specs.declared.Uc8253.{Uc8253}
 use Rattle.controller.specs.declared.notes.Notes.{Notes}
 use Rattle.controller.specs.Tell.{rows_told}
-use Rattle.controller.specs.Lent.{Slice}
 
 -- 7, or 0
 unfoldable pub seven : ℕ → List ℤ → ℕ
@@ -15,8 +14,8 @@ seven swing states = pick (every_state swing states) 0 7
 abbrev pub SwingFits : Uc8253 → Type 0
 SwingFits p = p.config.optics.full_swing ≤ most
 
-abbrev pub StatesFit : Uc8253 → Slice ℤ → Type 0
-StatesFit p states = every_state p.config.optics.full_swing states.now ≡ true
+abbrev pub StatesFit : Uc8253 → List ℤ → Type 0
+StatesFit p states = every_state p.config.optics.full_swing states ≡ true
 
 -- the rows after what a call at a time tells
 abbrev pub stored : ℕ → Notes → Uc8253 → List ℕ → List ℕ

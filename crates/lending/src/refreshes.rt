@@ -7,9 +7,11 @@ ghost use Rattle.controller.specs.Refresh.{mapping_now};
 ghost use Rattle.controller.specs.Planes.{copied_by, old_arrived};
 ghost use Rattle.controller.specs.TurnedBack.{ends_refresh};
 ghost use Rattle.controller.specs.Counting.{own};
+ghost use Rattle.controller.specs.Lent.{Keeps, held, before, after};
 
-use controller::{Drive, Uc8253, Work};
+use controller::{Drive, Lent, Uc8253, Work};
 use driving::drive_panel;
+use glass::Transfers;
 use numbers::Mapping;
 use pixels::draw;
 use ram::copy_new_to_old;
@@ -19,92 +21,72 @@ use rules::drive_at;
 fn mapping(p: Uc8253) -> Mapping
     ensures { result ≡ mapping_now p }
 {
-    let config = p.config;
-    let panel = config.panel;
-    let variant = config.variant;
-    let regs = p.regs;
-    Mapping::of(panel, regs, variant)
+    Mapping::of(p.config.panel, p.regs, p.config.variant)
 }
 
 // Every state walks all frames of its table.
 fn drive_whole(p: Uc8253, old: &[u8], new: &[u8], states: &mut [i64])
-    requires { steps.SwingFits p × steps.StatesFit p states }
+    requires { steps.SwingFits p × steps.StatesFit p states.old }
     ensures { states.new ≡ states_by drive.Whole p old.now new.now states.old }
 {
-    let config = p.config;
-    let optics = config.optics;
-    let swing = optics.full_swing;
-    let black = optics.positive_drives_black;
-    let waveform = p.waveform;
-    let ww = waveform.transfer(1, swing, black);
-    let kw = waveform.transfer(2, swing, black);
-    let wk = waveform.transfer(3, swing, black);
-    let kk = waveform.transfer(4, swing, black);
-    drive_panel(states, old, new, mapping(p), ww, kw, wk, kk);
+    let swing = p.config.optics.full_swing;
+    let black = p.config.optics.positive_drives_black;
+    let t = Transfers {
+        ww: p.waveform.transfer(1, swing, black),
+        kw: p.waveform.transfer(2, swing, black),
+        wk: p.waveform.transfer(3, swing, black),
+        kk: p.waveform.transfer(4, swing, black),
+    };
+    drive_panel(states, old, new, mapping(p), t);
 }
 
 // Every state walks the first frames of its table.
 fn drive_first(p: Uc8253, n: u64, old: &[u8], new: &[u8], states: &mut [i64])
-    requires { steps.SwingFits p × steps.StatesFit p states }
+    requires { steps.SwingFits p × steps.StatesFit p states.old }
     ensures { states.new
         ≡ states_by (drive.First n) p old.now new.now states.old }
 {
-    let config = p.config;
-    let optics = config.optics;
-    let swing = optics.full_swing;
-    let black = optics.positive_drives_black;
-    let waveform = p.waveform;
-    let ww = waveform.transfer_first(1, swing, black, n);
-    let kw = waveform.transfer_first(2, swing, black, n);
-    let wk = waveform.transfer_first(3, swing, black, n);
-    let kk = waveform.transfer_first(4, swing, black, n);
-    drive_panel(states, old, new, mapping(p), ww, kw, wk, kk);
+    let swing = p.config.optics.full_swing;
+    let black = p.config.optics.positive_drives_black;
+    let t = Transfers {
+        ww: p.waveform.transfer_first(1, swing, black, n),
+        kw: p.waveform.transfer_first(2, swing, black, n),
+        wk: p.waveform.transfer_first(3, swing, black, n),
+        kk: p.waveform.transfer_first(4, swing, black, n),
+    };
+    drive_panel(states, old, new, mapping(p), t);
 }
 
 // A refresh that ends by itself copies new to old, if it does.
 fn copy_after(p: Uc8253, old: &mut [u8], new: &[u8])
     ensures { old.new ≡ copied_by p.operation.work p old.old new.now }
 {
-    let config = p.config;
-    let variant = config.variant;
-    let regs = p.regs;
-    let operation = p.operation;
-    let work = operation.work;
-    match work {
-        Work::Nothing => {}
-        Work::PowerOn => {}
-        Work::PowerOff => {}
-        Work::DeepSleep => {}
-        Work::SoftReset => {}
-        Work::HardwareReset => {}
-        Work::Refresh(refresh) => {
-            let area = refresh.area;
-            if regs.copies_new_to_old(variant) {
-                copy_new_to_old(old, new, area);
-            }
+    if let Work::Refresh(refresh) = p.operation.work {
+        if p.regs.copies_new_to_old(p.config.variant) {
+            copy_new_to_old(old, new, refresh.area);
         }
     }
 }
 
 // A refresh that the call ends: the numbers come from the planes as they are, then new is copied to old.
-pub(crate) fn settle(
-    p: Uc8253,
-    at: u64,
-    asserted: bool,
-    old: &mut [u8],
-    new: &[u8],
-    states: &mut [i64],
-    picture: &mut [u8],
-)
-    requires { steps.SwingFits p × (ends_refresh asserted at p ≡ true → steps.StatesFit p states) }
-    ensures after { old.new ≡ old_arrived at p old.old new.now }
-    ensures states_after { states.new
-        ≡ states_by (driven_at own asserted at p) p old.old new.now states.old }
-    ensures picture_after { picture.new ≡ picture_by (driven_at own asserted at p) p states.new picture.old }
+pub(crate) fn settle(p: Uc8253, at: u64, asserted: bool, lent: &mut Lent<'_>)
+    requires { steps.SwingFits p × (ends_refresh asserted at p ≡ true → steps.StatesFit p (held lent.now).states) }
+    ensures old_after { (after lent).old ≡ old_arrived at p (before lent).old (before lent).new }
+    ensures states_after { (after lent).states
+        ≡ states_by (driven_at own asserted at p) p (before lent).old (before lent).new (before lent).states }
+    ensures picture_after { (after lent).picture
+        ≡ picture_by (driven_at own asserted at p) p (after lent).states (before lent).picture }
+    ensures others { ((after lent).new ≡ (before lent).new) × ((after lent).rows ≡ (before lent).rows) }
+    ensures kept { Keeps lent }
 {
     let swing = p.config.optics.full_swing;
-    let how = drive_at(p, at, asserted);
-    match how {
+    let (old, new, states, picture) = (
+        &mut *lent.old,
+        &mut *lent.new,
+        &mut *lent.states,
+        &mut *lent.picture,
+    );
+    match drive_at(p, at, asserted) {
         Drive::Nothing => {}
         Drive::Whole => {
             drive_whole(p, old, new, states);

@@ -4,20 +4,20 @@
 ghost use Rattle.std.specs.Prelude.{◌≡◌};
 ghost use Rattle.controller.specs.TurnedBack as tests;
 ghost use Rattle.controller.specs.Calls as calls;
-ghost use Rattle.controller.specs.Lent.{Makes};
-ghost use Rattle.controller.specs.World.{buffers};
-ghost use Rattle.base.specs.RefusalNumbers.{refusal_number};
+ghost use Rattle.controller.specs.Lent.{Makes, Keeps, held};
+ghost use Rattle.base.specs.RefusalNumbers.{number_in};
 
 use base::Refusal;
 use config::{Uc8253Config, Uc8253Geometry, Uc8253Timing, Variant};
-use controller::{Answer, Current, Mode, Operation, Power, Stage, Uc8253, Work};
+use controller::{Current, Lent, Mode, Operation, Power, Stage, Uc8253, Work};
 use diagnostic_log::Log;
 use glass::{Optics, PanelImage, RefreshKind, level};
-use pixels::{fill_bytes, fill_states, fill_words};
+use pixels::fill_states;
 use registers::{Area, Luts, Pair, Registers};
-use rules::lengths_fit;
+use rules::lent_fits;
 use waveform::{GROUPS, Group, LUTS, Levels, Waveform};
 
+#[tactic(auto, unfolding(controller::specs::Calls::no_waveform))]
 fn no_waveform() -> Waveform
     ensures { result ≡ calls.no_waveform }
 {
@@ -26,7 +26,12 @@ fn no_waveform() -> Waveform
         vdl: 0,
         vdhr: 0,
     };
-    Waveform::of([[Group::BLANK; GROUPS]; LUTS], levels, 0, false)
+    Waveform {
+        tables: [[Group::BLANK; GROUPS]; LUTS],
+        levels,
+        frame_ns: 0,
+        vcom_by_frame: false,
+    }
 }
 
 // Running, without supplies and without a command, VCOM by the rule that the configuration selects, the
@@ -134,7 +139,7 @@ fn no_registers() -> Registers
     }
 }
 
-// A record of zeros: what a refused making gives back.
+// A record of zeros: what stands for the record of a refused making.
 pub fn zeros() -> Uc8253
     ensures { result ≡ calls.zeros }
 {
@@ -142,58 +147,27 @@ pub fn zeros() -> Uc8253
 }
 
 // 1 to 4, 13, then 5.
-fn making_refused(
-    config: Uc8253Config,
-    old: &[u8],
-    new: &[u8],
-    states: &[i64],
-    picture: &[u8],
-    rows: &[u64],
-) -> Refusal
-    ensures { refusal_number result ≡ tests.making_refused config
-        (buffers old.now new.now states.now picture.now rows.now) }
+fn making_refused(config: Uc8253Config, lent: &Lent<'_>) -> Result<(), Refusal>
+    ensures { number_in result ≡ tests.making_refused config (held lent.now) }
 {
-    let refused = config.validate();
-    if refused.none() {
-        if lengths_fit(
-            config,
-            old.len(),
-            new.len(),
-            states.len(),
-            picture.len(),
-            rows.len(),
-        ) {
-            return Refusal::Nothing;
-        }
-        return Refusal::BufferLength;
+    config.validate()?;
+    if lent_fits(config, lent) {
+        return Ok(());
     }
-    refused
+    Err(Refusal::BufferLength)
 }
 
-// The chip at power-on under a configuration, with what it is lent; the zeros where it is refused.
-pub fn power_on(
-    config: Uc8253Config,
-    old: &mut [u8],
-    new: &mut [u8],
-    states: &mut [i64],
-    picture: &mut [u8],
-    rows: &mut [u64],
-) -> Answer
-    ensures { Makes (calls.made config) (tests.making_refused config) result.chip result.refused old new states picture rows }
+// The chip at power-on under a configuration, with what it is lent.
+pub fn power_on(config: Uc8253Config, lent: &mut Lent<'_>) -> Result<Uc8253, Refusal>
+    ensures makes { Makes (calls.made config) (tests.making_refused config) result lent }
+    ensures kept { Keeps lent }
 {
-    let refused = making_refused(config, old, new, states, picture, rows);
-    if refused.none() {
-        let optics = config.optics;
-        let gray = optics.initial_gray;
-        fill_bytes(old, 0);
-        fill_bytes(new, 0);
-        fill_states(states, level(gray, optics.full_swing));
-        fill_bytes(picture, gray);
-        fill_words(rows);
-        let variant = config.variant;
-        let chip = untouched(config, Registers::reset(variant));
-        return Answer { chip, refused };
-    }
-    let chip = zeros();
-    Answer { chip, refused }
+    making_refused(config, lent)?;
+    let gray = config.optics.initial_gray;
+    lent.old.fill(0);
+    lent.new.fill(0);
+    fill_states(lent.states, level(gray, config.optics.full_swing));
+    lent.picture.fill(gray);
+    lent.rows.fill(0);
+    Ok(untouched(config, Registers::reset(config.variant)))
 }

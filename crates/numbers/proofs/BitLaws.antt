@@ -1,6 +1,6 @@
 -- The bits of a byte and the number of a pixel, by tests that antt computes at every byte and bit:
 -- the other bits of a byte are 255 less it, and a number is 4 less 1 for an old white and less 2 for a new one.
-use mathlib.Core.Path.{◌≡◌, sym}
+use mathlib.Core.Path.{◌≡◌}
 use Prim.Native.Nat.{ℕ, ◌-◌, ◌<◌}
 use native.Mathlib.Omega.{arith}
 use lib.Dec.{T, eqb, eqb→eq}
@@ -29,18 +29,6 @@ less_than_one v = by_cases (eqb v 0)
 
 pub zero_white : (b k : ℕ) → b < 256 → k < 8 → eqb (bit_of (255 - b) k) 1 ≡ eqb (bit_of b k) 0
 zero_white b k hb hk = rw (other b k hb hk) (less_than_one (bit_of b k))
-
--- where neither 0 nor 1 is white, no bit is
-none_test : T (below 8 (λ k. eqb (bit_of 0 k) 0))
-none_test = tt
-
-no_bit : (white v : ℕ) → (white ≡ 0 → ⊥) → (white ≡ 1 → ⊥) → v < 2 → v ≡ white → ⊥
-no_bit white v h l s e = omega (arith, h, l)
-
-pub none_white : (b k white : ℕ) → (white ≡ 0 → ⊥) → (white ≡ 1 → ⊥) → k < 8 → eqb (bit_of 0 k) 1 ≡ eqb (bit_of b k) white
-none_white b k white h l hk =
-    let none : bit_of 0 k ≡ 0 = eqb→eq (bit_of 0 k) 0 (at 8 (λ k. eqb (bit_of 0 k) 0) none_test k hk) in
-    rw none (sym (ne_eqb (bit_of b k) white (λ e. no_bit white (bit_of b k) h l (bit_small b k) e)))
 
 -- ---- a number without a branch
 number_test : T (below 2 (λ o. below 2 (λ n. eqb (4 - o - n - n) (transition_of (eqb o 1) (eqb n 1)))))

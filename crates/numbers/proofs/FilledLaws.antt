@@ -1,27 +1,19 @@
 -- Entries written in turn: one more, the same by another rule that agrees, and what stands where afterwards.
 use mathlib.Core.Path.{◌≡◌, refl, sym, ap, ◌∙◌, subst}
 use mathlib.Core.List.{List, [], ◌∷◌, ◌++◌, append-nil, append_assoc}
-use Prim.Native.Nat.{ℕ, zero, suc, ◌+◌, ◌*◌, ◌^◌, ◌≤◌, ◌<◌}
-use native.Mathlib.Nat.{mul-le-mul, mul-le-mul_right, zero-mul, suc-mul}
-use native.Mathlib.Numerals.{add-one}
+use Prim.Native.Nat.{ℕ, zero, suc, ◌+◌, ◌*◌, ◌≤◌, ◌<◌}
+use native.Mathlib.Nat.{mul-le-mul_right, zero-mul, suc-mul}
 use native.Mathlib.Decide.{dec_le}
 use native.Mathlib.Omega.{arith}
-use lib.ListN.{length, get_or, set, take, length-set, length-append}
+use lib.ListN.{length, get_or, set, take, drop, replicate, length-set, length-append}
 use lib.Seq.{get_or-set_same, get_or-set_other, take_all, take-suc-set}
+use Rattle.std.proofs.lemmas.List.{drop-set-lt, take-append-drop}
+use Rattle.std.proofs.lemmas.Slice.{take-put_mid, drop-put_mid}
+use borrow.Rule.Slice.PartMut.{put_mid}
 use Rattle.base.specs.InTurn.{in_turn}
 use Rattle.base.specs.Listed.{listed}
 use Rattle.base.proofs.Listed.{length_listed}
 use Rattle.numbers.specs.Filled.{filled, rows_filled}
-
-pub filled_more : (f : ℕ → ℕ) (p n : ℕ) (l : List ℕ) → set (filled f p n l) (p + n) (f n) ≡ filled f p (n + 1) l
-filled_more f p n l = rw (add-one n)
-
-pub filled_none : (f : ℕ → ℕ) (p n : ℕ) (l : List ℕ) → n ≤ 0 → filled f p n l ≡ l
-filled_none f p n l h = ap (λ (k : ℕ). filled f p k l) {x = n} {y = 0} (omega arith)
-
--- where a row begins, row and width of 16 bits each
-pub row_place : (y w : ℕ) → y < 65_536 → w < 65_536 → y * w < 2 ^ 32
-row_place y w h k = omega (arith, mul-le-mul {n₁ = y} {m₁ = w} {n₂ = 65_535} {m₂ = 65_535} (omega arith) (omega arith))
 
 pub filled_same : (f g : ℕ → ℕ) (p n : ℕ) (l : List ℕ) → ((x : ℕ) → f x ≡ g x) → filled f p n l ≡ filled g p n l
 filled_same f g p zero l e = refl
@@ -90,6 +82,35 @@ filled_taken f p (suc n) l h =
     ∙ take-suc-set (filled f p n l) (p + n) (f n) (omega (arith, length_filled f p n l))
     ∙ ap (λ (t : List ℕ). t ++ f n ∷ []) (filled_taken f p n l (omega arith))
     ∙ append_assoc (take p l) (listed n f) (f n ∷ [])
+
+-- and what stands behind it
+filled_dropped : (f : ℕ → ℕ) (p n m : ℕ) (l : List ℕ) → p + n ≤ m → drop m (filled f p n l) ≡ drop m l
+filled_dropped f p zero m l h = refl
+filled_dropped f p (suc n) m l h = drop-set-lt m (filled f p n l) (p + n) (f n) (omega arith) ∙ filled_dropped f p n m l (omega arith)
+
+-- a part of the list written at once
+pub filled_part : (f : ℕ → ℕ) (p n k : ℕ) (l part : List ℕ) → p + n ≤ length l → k ≡ n → part ≡ listed n f → put_mid p k l part ≡ filled f p n l
+filled_part f p n k l part h e q =
+    let long : length part ≡ n = ap length q ∙ length_listed n f in
+    sym (take-append-drop (p + n) (put_mid p k l part))
+    ∙ (λ i. front long i ++ back long i)
+    ∙ take-append-drop (p + n) (filled f p n l)
+  where
+    front : length part ≡ n → take (p + n) (put_mid p k l part) ≡ take (p + n) (filled f p n l)
+    front g =
+        take-put_mid p k l part (p + n) (omega arith) (omega arith) ∙ ap (λ (t : List ℕ). take p l ++ t) q ∙ sym (filled_taken f p n l h)
+
+    back : length part ≡ n → drop (p + n) (put_mid p k l part) ≡ drop (p + n) (filled f p n l)
+    back g = drop-put_mid p k l part (p + n) (omega arith) (omega arith) (omega arith) ∙ sym (filled_dropped f p n (p + n) l (omega arith))
+
+-- one entry over and over
+pub listed_once : (n a : ℕ) → replicate n a ≡ listed n (λ k. a)
+listed_once zero a = refl
+listed_once (suc n) a = again n ∙ ap (λ (t : List ℕ). t ++ a ∷ []) (listed_once n a)
+  where
+    again : (m : ℕ) → replicate (suc m) a ≡ replicate m a ++ a ∷ []
+    again zero = refl
+    again (suc m) = ap (λ (t : List ℕ). a ∷ t) (again m)
 
 rows_taken : (f : ℕ → ℕ → ℕ) (n m : ℕ) (l : List ℕ) → m * n ≤ length l → take (m * n) (rows_filled f n m l) ≡ in_turn m (λ y. listed n (λ x. f x y))
 rows_taken f n zero l h = ap (λ (k : ℕ). take k l) {x = 0 * n} {y = 0} (zero-mul n)

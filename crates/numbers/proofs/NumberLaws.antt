@@ -1,14 +1,11 @@
 -- A pixel's number by rows is its number: inside both areas is a row inside both and a column inside both.
 use mathlib.Core.Path.{◌≡◌, refl, sym, subst}
-use mathlib.Core.Bool.{Bool, true, false, ◌&&◌, ◌||◌}
+use mathlib.Core.Bool.{Bool, true, false, ◌&&◌}
 use mathlib.Core.List.{List}
-use Prim.Native.Nat.{ℕ, zero, suc, ◌+◌, ◌*◌, ◌/◌, ◌%◌, ◌≤◌, ◌<◌, min, max}
-use native.Mathlib.Numerals.{add-one}
+use Prim.Native.Nat.{ℕ, zero, suc, ◌+◌, ◌*◌, ◌/◌, ◌%◌, ◌<◌, min, max}
 use native.Mathlib.Omega.{arith}
 use lib.Dec.{T, leb, eqb}
-use lib.ListN.{length, get_or, drop, drop_of_length-le}
-use lib.Seq.{drop-cons}
-use borrow.Author.Tests.{le-leb, lt-leb, leb-true, leb-false, eqb-true}
+use borrow.Author.Tests.{le-leb, lt-leb, leb-true, leb-false}
 use Rattle.base.specs.Pick.{pick}
 use Rattle.base.proofs.Cases.{by_cases}
 use Rattle.registers.specs.Area.{inside}
@@ -17,8 +14,8 @@ use Rattle.ram.specs.Plane.{place, bit_at}
 use Rattle.numbers.specs.declared.Scan.{Scan}
 use Rattle.numbers.specs.declared.Row.{Row}
 use Rattle.numbers.specs.declared.Mapping.{Mapping}
-use Rattle.numbers.specs.Number.{shown_at, transition_of, number_of, some_undriven}
-use Rattle.numbers.specs.InnerRow.{row_at, in_row, number_in, number_from, in_order, Outside, Whole}
+use Rattle.numbers.specs.Number.{shown_at, transition_of, number_of}
+use Rattle.numbers.specs.InnerRow.{row_at, number_in, number_from, in_order, Outside, Whole}
 
 -- ---- tests of a larger and of a smaller end
 leb_max : (a b c : ℕ) → leb (max a b) c ≡ leb a c && leb b c
@@ -107,25 +104,6 @@ shown_in_order s first last v h =
     rw (e.1, e.0)
 
 -- ---- where a column lies
-module _ (q : Row) (c : ℕ) where
-  pub before_row : c < q.lo → in_row q c ≡ false
-  before_row h = rw (lt-leb q.lo c h)
-
-  pub after_row : q.hi < c → in_row q c ≡ false
-  after_row h = rw (lt-leb c q.hi h) (never (leb q.lo c))
-
-  in_both : q.lo ≤ c → c ≤ q.hi → in_row q c ≡ true
-  in_both h l = rw (le-leb q.lo c h, le-leb c q.hi l)
-
-pub none_outside : (q : Row) (x count : ℕ) → x < count → Outside q x 0 count
-none_outside q x count h = record { most = omega arith; none = λ k l. absurd (omega arith) }
-
-pub whole_bytes : (q : Row) (x n count : ℕ) → x % 8 ≡ 0 → q.lo ≤ x → x + n * 8 ≤ q.hi + 1 → x + n * 8 ≤ count → Whole q x n count
-whole_bytes q x n count z lo hi most = record { most = most; begins = λ h. z; inside = λ k l. in_both q (x + k) (omega arith) (omega arith) }
-
-pub no_bytes : (q : Row) (x count : ℕ) → x < count → Whole q x 0 count
-no_bytes q x count h = record { most = omega arith; begins = λ l. absurd (omega arith); inside = λ k l. absurd (omega arith) }
-
 module _ (q : Row) (white : ℕ) (old new : List ℕ) (x n count : ℕ) where
   pub outside_numbers : Outside q x n count → (k : ℕ) → k < n → 255 ≡ number_in q white old new (x + k)
   unfolding number_in

@@ -7,17 +7,16 @@ use Prim.Native.Nat.{ℕ, zero, suc, ◌+◌, ◌-◌, ◌≤◌, ◌<◌}
 use native.Mathlib.Decide.{dec_le}
 use native.Mathlib.Omega.{arith}
 use lib.Dec.{leb, eqb}
-use borrow.Author.Tests.{le-leb, leb-true, leb-false, not-false, ne_eqb}
+use borrow.Author.Tests.{le-leb, leb-true, not-false, ne_eqb}
 use Rattle.base.specs.InTurn.{in_turn}
 use Rattle.base.specs.Listed.{listed}
 use Rattle.base.specs.Pick.{pick}
 use Rattle.base.proofs.Cases.{by_cases}
 use Rattle.registers.specs.Area.{inside}
-use Rattle.registers.specs.declared.Area.{Area}
 use Rattle.ram.specs.Plane.{bit_at}
 use Rattle.numbers.specs.declared.Scan.{Scan}
 use Rattle.numbers.specs.declared.Mapping.{Mapping}
-use Rattle.numbers.specs.Number.{reversed_of, nowhere, shown_at, transition_of, number_of, some_undriven}
+use Rattle.numbers.specs.Number.{nowhere, shown_at, transition_of, number_of, some_undriven}
 use Rattle.numbers.specs.Number.{panel_numbers, some_below, between_both, outside_at, outside_some}
 
 -- ---- some of a list, some below a number

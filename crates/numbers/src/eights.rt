@@ -17,13 +17,11 @@ const FOURS: u64 = 0x0404_0404_0404_0404;
 fn whites(b: u8, white: u8) -> u8
     ensures { (k : ℕ) → k < 8 → eqb (bit_of result k) 1 ≡ eqb (bit_of b k) white }
 {
-    if white == 0 {
-        return 255 - b;
+    match white {
+        0 => 255 - b,
+        1 => b,
+        _ => 0,
     }
-    if white == 1 {
-        return b;
-    }
-    0
 }
 
 // The bits of a byte, a byte each: bit k in byte k, the lowest byte first. Bit 0 is the highest.
@@ -48,9 +46,7 @@ fn put_eight(numbers: &mut [u8], at: usize, w: u64)
     requires { at + 8 ≤ length numbers.old }
     ensures { numbers.new ≡ filled (byte_of w) at 8 numbers.old }
 {
-    for k in 0usize..8 {
-        numbers[at + k] = ((w >> (8 * k)) % 256) as u8;
-    }
+    numbers[at..at + 8].copy_from_slice(&w.to_le_bytes());
 }
 
 // The numbers of the pixels of n bytes of each plane, with no branch for a pixel.
@@ -67,7 +63,7 @@ pub(crate) fn number_bytes(
     ensures { numbers.new
         ≡ filled (number_from old.now new.now place white) at (n * 8) numbers.old }
 {
-    for i in 0usize..n {
+    for i in 0..n {
         let o = whites(old[place + i], white);
         let w = whites(new[place + i], white);
         put_eight(numbers, at + i * 8, eight(o, w));

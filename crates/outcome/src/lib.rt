@@ -8,7 +8,7 @@ ghost use Rattle.outcome.specs.Came.{came_by, panel_came};
 pub enum Came {
     // A file of no bytes: nobody captured.
     NoEvents,
-    // Turned back, by this number.
+    // Turned back, by this number: the definitions speak of numbers, and so do the lines.
     Refused(u8),
     Played,
 }
@@ -17,18 +17,19 @@ pub enum Came {
 pub fn came_by(number: u8) -> Came
     ensures { result ≡ came_by number }
 {
-    if number == 0 {
-        return Came::Played;
+    match number {
+        0 => Came::Played,
+        no => Came::Refused(no),
     }
-    Came::Refused(number)
 }
 
 // For `panel`, which takes an empty file for an evening without events.
 pub fn panel_came(file: &[u8], number: u8) -> Came
     ensures { result ≡ panel_came file.now number }
 {
-    if file.len() == 0 {
-        return Came::NoEvents;
+    if file.is_empty() {
+        Came::NoEvents
+    } else {
+        came_by(number)
     }
-    came_by(number)
 }

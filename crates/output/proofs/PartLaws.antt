@@ -2,7 +2,7 @@
 -- it did; parts one after the other are the whole text.
 use mathlib.Core.Path.{◌≡◌, refl, sym, ap, ◌∙◌}
 use mathlib.Core.List.{List, [], ◌∷◌, ◌++◌, append-nil, append_assoc}
-use Prim.Native.Nat.{ℕ, zero, suc, ◌+◌, ◌-◌, ◌≤◌, ◌<◌}
+use Prim.Native.Nat.{ℕ, zero, suc, ◌+◌, ◌-◌, ◌≤◌, ◌<◌, min}
 use native.Mathlib.Nat.{sub_self, sub-zero, zero-add, add-zero, add-sub_cancel_left}
 use native.Mathlib.Decide.{dec_le}
 use native.Mathlib.Numerals.{add-one}
@@ -12,8 +12,10 @@ use lib.ListN.{length, take, drop, get_or, length-append, length-drop, take-appe
 use lib.Seq.{take-suc, take_all, drop-cons, get_or-drop, drop-drop}
 use borrow.Author.Tests.{lt-ltb, le-ltb, ltb-true}
 use Rattle.base.proofs.Cases.{by_cases}
-use Rattle.text.specs.Text.{filled, Puts}
-use Rattle.text.proofs.Filling.{length_filled, filled_full, take_filled, puts_nothing, puts_then, puts_as, puts_filled, length_puts}
+use Rattle.std.specs.Borrow.{MutBor}
+use Rattle.text.specs.declared.Text.{Text}
+use Rattle.text.specs.Text.{filled, begun, put}
+use Rattle.text.proofs.Filling.{length_filled, filled_full, take_filled, put_put, put_nothing, put_held, put_buffer, laid_zero}
 use Rattle.output.specs.declared.Part.{Part}
 use Rattle.output.specs.Parts.{joined, reach, units_from, part_of, Lays}
 
@@ -42,47 +44,61 @@ module _ (us : List (List ℕ)) (from next : ℕ) (h : from ≤ next) (k : next 
       ∙ get_or-drop from us (next - from) []
       ∙ ap (λ (j : ℕ). get_or us j []) f))
 
--- ---- on the way: the units up to the next one are in the buffer, whole
-pub record Along (us : List (List ℕ)) (from : ℕ) (b : List ℕ) (held next : ℕ) (text : List ℕ) : Type 0 where
+-- ---- on the way: the units up to the next one are in the text that was begun in the buffer s, whole
+pub record Along (us : List (List ℕ)) (from : ℕ) (s : MutBor (List ℕ)) (next : ℕ) (t : Text) : Type 0 where
   pub on : from ≤ next
-  pub puts : Puts (units_from from (next - from) us) 0 held b text
-  pub exact : held ≡ length (units_from from (next - from) us)
-  pub far : reach (length b) (drop from us) ≡ next - from + reach (length b - held) (drop next us)
+  pub puts : t ≡ put (units_from from (next - from) us) (begun s)
+  pub exact : t.held ≡ length (units_from from (next - from) us)
+  pub far : reach (length s.now) (drop from us) ≡ next - from + reach (length s.now - t.held) (drop next us)
 
-module _ (us : List (List ℕ)) (from : ℕ) (b : List ℕ) where
-  pub along_start : Along us from b 0 from b
+module _ (us : List (List ℕ)) (from : ℕ) (s : MutBor (List ℕ)) where
+  pub along_start : Along us from s from (begun s)
   along_start =
       let e : units_from from (from - from) us ≡ [] = rw (sub_self from) in
       record {
         on = omega arith;
-        puts = rw e (puts_nothing 0 b (omega arith));
+        puts = rw e (sym (put_nothing (begun s)));
         exact = rw e;
-        far = rw (sub_self from, sub-zero (length b), zero-add);
+        far = rw (sub_self from, sub-zero (length s.now), zero-add);
       }
 
-  module _ (held next : ℕ) (text : List ℕ) (a : Along us from b held next text) where
+  -- a text that was put from the start of the buffer
+  held_is : (x : List ℕ) (t : Text) → t ≡ put x (begun s) → t.held ≡ min (length x) (length s.now)
+  held_is x t e = omega (arith, ap (λ (u : Text). u.held) e, put_held x (begun s))
+
+  buffer_is : (x : List ℕ) (t : Text) → t ≡ put x (begun s) → t.buffer.now ≡ filled x s.now
+  buffer_is x t e = ap (λ (u : Text). u.buffer.now) e ∙ put_buffer x (begun s) ∙ laid_zero x s.now
+
+  module _ (next : ℕ) (t : Text) (a : Along us from s next t) where
     -- the units are at an end
-    pub along_end : length us ≤ next → Lays us from b text (record { held = held; next = next })
+    pub along_end : length us ≤ next → Lays us from s.now t.buffer.now (record { held = t.held; next = next })
     unfolding part_of
     along_end h =
+        let b = s.now in
         let e : drop next us ≡ [] = drop_of_length-le us h in
         let r : reach (length b) (drop from us) ≡ next - from = a.far ∙ rw (e, add-zero) in
         let l : length (drop from us) ≤ next - from = omega (arith, length-drop from us) in
         let w : units_from from (next - from) us ≡ joined (drop from us) = ap joined (take_all (next - from) (drop from us) l) in
         let n : from + (next - from) ≡ next = omega (arith, a.on) in
         record {
-          buffer = puts_filled a.puts ∙ ap (λ (t : List ℕ). filled t b) w;
+          buffer = buffer_is (units_from from (next - from) us) t a.puts ∙ ap (λ (x : List ℕ). filled x b) w;
           part = rw (r, ← a.exact, n);
         }
 
-    module _ (t : List ℕ) (n : ℕ) (k : next < length us) (p : Puts (get_or us next []) held n text t) where
-      put : Puts (units_from from (next + 1 - from) us) 0 n b t
-      put = puts_as (puts_then a.puts p) (one_more us from next a.on k)
+    module _ (u : Text) (k : next < length us) (p : u ≡ put (get_or us next []) t) where
+      whole : u ≡ put (units_from from (next + 1 - from) us) (begun s)
+      whole =
+          p ∙ ap (put (get_or us next [])) a.puts
+          ∙ put_put (units_from from (next - from) us) (get_or us next []) (begun s)
+          ∙ ap (λ (x : List ℕ). put x (begun s)) (one_more us from next a.on k)
 
-      long : length t ≡ length b
-      long = length_puts put
+      long : length u.buffer.now ≡ length s.now
+      long = ap length (buffer_is (units_from from (next + 1 - from) us) u whole) ∙ length_filled (units_from from (next + 1 - from) us) s.now
 
-      longer : length (units_from from (next + 1 - from) us) ≡ held + length (get_or us next [])
+      count : u.held ≡ min (length (units_from from (next + 1 - from) us)) (length s.now)
+      count = held_is (units_from from (next + 1 - from) us) u whole
+
+      longer : length (units_from from (next + 1 - from) us) ≡ t.held + length (get_or us next [])
       longer =
           ap length (sym (one_more us from next a.on k))
           ∙ length-append (units_from from (next - from) us) (get_or us next [])
@@ -92,34 +108,41 @@ module _ (us : List (List ℕ)) (from : ℕ) (b : List ℕ) where
       at_next = drop-cons us next [] k ∙ ap (λ (j : ℕ). get_or us next [] ∷ drop j us) (sym (add-one next))
 
       -- a unit that ends before the buffer does
-      pub along_more : n < length t → Along us from b n (next + 1) t
+      pub along_more : u.held < length u.buffer.now → Along us from s (next + 1) u
       along_more h =
-          let m : n ≡ held + length (get_or us next []) = omega (arith, put.count, longer, long, h) in
-          let f : length (get_or us next []) < length b - held = omega (arith, m, long, h) in
-          let g : length b - n ≡ length b - held - length (get_or us next []) = omega (arith, m) in
+          let b = s.now in
+          let m : u.held ≡ t.held + length (get_or us next []) = omega (arith, count, longer, long, h) in
+          let f : length (get_or us next []) < length b - t.held = omega (arith, m, long, h) in
+          let g : length b - u.held ≡ length b - t.held - length (get_or us next []) = omega (arith, m) in
           let r = ap (λ (j : ℕ). reach j (drop (next + 1) us)) g in
           record {
             on = omega (arith, a.on);
-            puts = put;
+            puts = whole;
             exact = m ∙ sym longer;
             far = a.far ∙ rw (at_next, lt-ltb _ _ f) (omega (arith, r, a.on));
           }
 
       -- one that does not
-      pub along_full : length t ≤ n → Lays us from b t (record { held = held; next = next })
+      pub along_full : length u.buffer.now ≤ u.held → Lays us from s.now u.buffer.now (record { held = t.held; next = next })
       unfolding part_of
       along_full h =
-          let f : length b - held ≤ length (get_or us next []) = omega (arith, put.count, longer, long, h) in
+          let b = s.now in
+          let f : length b - t.held ≤ length (get_or us next []) = omega (arith, count, longer, long, h) in
           let r : reach (length b) (drop from us) ≡ next - from = a.far ∙ rw (at_next, le-ltb _ _ f, add-zero) in
           let m : from + (next - from) ≡ next = omega (arith, a.on) in
-          let l : length b ≤ length (units_from from (next + 1 - from) us) = omega (arith, put.count, long, h) in
+          let l : length b ≤ length (units_from from (next + 1 - from) us) = omega (arith, count, long, h) in
           record {
             buffer =
-                puts_filled put
+                buffer_is (units_from from (next + 1 - from) us) u whole
                 ∙ sym (filled_full (units_from from (next + 1 - from) us) (joined (drop (next + 1 - from) (drop from us))) b l)
                 ∙ ap (λ (x : List ℕ). filled x b) (joined_split (next + 1 - from) (drop from us));
             part = rw (r, ← a.exact, m);
           }
+
+-- what a text leaves in the buffer that it was begun in
+pub lays_as : {us : List (List ℕ)} {from next h k : ℕ} {b c d e : List ℕ} → c ≡ d → b ≡ e → h ≡ k
+    → Lays us from e d (record { held = k; next = next }) → Lays us from b c (record { held = h; next = next })
+lays_as p q r l = rw (p, q, r) l
 
 -- ---- a part is whole units, and parts one after the other are the text
 reach_within : (n : ℕ) (us : List (List ℕ)) → length (joined (take (reach n us) us)) ≤ n

@@ -1,15 +1,17 @@
 -- Greys as bytes: one more of a row, how many there are; and a picture of bytes at the top 255 is written as it stands.
 use mathlib.Core.Path.{◌≡◌, refl, sym, ap, ◌∙◌}
 use mathlib.Core.List.{List, [], ◌∷◌, ◌++◌, append-nil, append_assoc}
-use Prim.Native.Nat.{ℕ, zero, suc, ◌+◌, ◌*◌, ◌/◌, ◌%◌, ◌≤◌, ◌<◌}
+use Prim.Native.Nat.{ℕ, zero, suc, ◌+◌, ◌*◌, ◌/◌, ◌%◌, ◌≤◌, ◌<◌, min}
 use native.Mathlib.Nat.{mod-eq_of_lt}
 use native.Mathlib.Numerals.{add-one}
 use native.Mathlib.Omega.{arith}
 use lib.Dec.{leb}
 use lib.ListN.{length, take, drop, get_or, length-append, length-take}
 use Rattle.base.proofs.Cases.{both}
-use Rattle.text.specs.Text.{filled, Puts}
-use Rattle.text.proofs.Filling.{puts_filled, puts_as, take_filled}
+use Rattle.std.specs.Borrow.{MutBor}
+use Rattle.text.specs.declared.Text.{Text}
+use Rattle.text.specs.Text.{filled, begun, put}
+use Rattle.text.proofs.Filling.{take_filled, put_held, put_buffer, laid_zero}
 use Rattle.png.specs.Png.{png_of}
 use Rattle.glass.specs.declared.PanelImage.{PanelImage}
 use Rattle.output.specs.Units.{row_of, rows_of, sample_of, samples_of, wide_rows, graymap_units, graymap_of, graymap_at, png_units, png_at}
@@ -37,21 +39,18 @@ length_samples top [] = omega arith
 length_samples top (x ∷ xs) =
     rw (length-append (sample_of top x) (samples_of top xs)) (omega (arith, sample_long top x, length_samples top xs))
 
--- what was put at the start of a list that is long enough stands there
-pub puts_front : {x b c : List ℕ} {r : ℕ} → Puts x 0 r b c → length x ≤ length b → take r c ≡ x
-puts_front {x} {b} {c} {r} p h =
-    let n : r ≡ length x = omega (arith, p.count) in
-    ap (λ (k : ℕ). take k c) n
-    ∙ ap (take (length x)) (puts_filled p ∙ ap (λ (t : List ℕ). filled t b) (sym (append-nil x)))
-    ∙ take_filled x [] b h
-
--- so do the samples of a row of at most 65,535 pixels
-pub row_front : (top w y : ℕ) (p : List ℕ) {row b c : List ℕ} {r : ℕ} → w < 65_536 → 131_070 ≤ length b → row ≡ row_of w y p
-    → Puts (samples_of top row) 0 r b c → take r c ≡ samples_of top (row_of w y p)
-row_front top w y p h k e q =
-    let long : length (samples_of top (row_of w y p)) ≤ 131_070 =
-    omega (arith, length_samples top (row_of w y p), length-take w (drop (y * w) p)) in
-    puts_front (puts_as q (ap (samples_of top) e)) (omega (arith, long))
+-- what was put at the start of a list that is long enough stands there; so do the samples of a row of at most 65,535 pixels
+pub row_front : (top w y : ℕ) (p : List ℕ) {row : List ℕ} (b : MutBor (List ℕ)) (s t : Text) → w < 65_536 → 131_070 ≤ length b.now
+    → s ≡ begun b → row ≡ row_of w y p → t ≡ put (samples_of top row) s → take t.held t.buffer.now ≡ samples_of top (row_of w y p)
+row_front top w y p b s t h k i e q =
+    let x = samples_of top (row_of w y p) in
+    let long : length x ≤ 131_070 = omega (arith, length_samples top (row_of w y p), length-take w (drop (y * w) p)) in
+    let f : t ≡ put x (begun b) = q ∙ rw (i, e) in
+    let n : min (length x) (length b.now) ≡ length x = omega (arith, long) in
+    let m : t.held ≡ length x = omega (arith, ap (λ (u : Text). u.held) f, put_held x (begun b)) in
+    let c : t.buffer.now ≡ filled (x ++ []) b.now =
+    ap (λ (u : Text). u.buffer.now) f ∙ put_buffer x (begun b) ∙ laid_zero x b.now ∙ ap (λ (y : List ℕ). filled y b.now) (sym (append-nil x)) in
+    rw (m, c) (take_filled x [] b.now (omega (arith, long)))
 
 -- ---- bytes at the top 255
 bytes_samples : (xs : List ℕ) → ((i : ℕ) → get_or xs i 0 < 256) → samples_of 255 xs ≡ xs

@@ -3,7 +3,7 @@
 //
 // It is cut into units, a line or a row each, and a text of any length goes through a lent buffer
 // part by part: each part is as many whole units as end before the buffer does.
-#![tactic(auto)]
+#![tactic(auto, using(text::proofs::Filling::puts))]
 
 mod lines;
 mod parts;
@@ -13,7 +13,7 @@ mod samples;
 mod wide;
 
 ghost use Rattle.std.specs.Prelude.{◌≡◌, List, [], ◌∷◌, ℕ, length, get_or};
-ghost use Rattle.text.specs.Text.{Puts};
+ghost use Rattle.text.specs.Text.{put};
 ghost use Rattle.output.specs.Lines.{no_events_line, refused_line};
 ghost use Rattle.output.specs.Units.{played_of, units_of};
 ghost use Rattle.output.specs.InnerCount.{played_count};
@@ -22,7 +22,7 @@ ghost use Rattle.output.specs.Parts.{Lays};
 use diagnostic_log::Log;
 use glass::PanelImage;
 pub use outcome::Came;
-use text::put;
+use text::Text;
 pub use wide::{wide_count, wide_part};
 
 // What is written of a capture that is played.
@@ -57,10 +57,8 @@ pub struct Part {
 pub fn count(form: Form, o: Outcome, events: &[u8]) -> usize
     ensures { (answers picture rows : List ℕ) → result ≡ length (units_of form o events.now answers picture rows) }
 {
-    let came = o.came;
-    match came {
-        Came::NoEvents => 1,
-        Came::Refused(_) => 1,
+    match o.came {
+        Came::NoEvents | Came::Refused(_) => 1,
         Came::Played => played_count(form, o.log.stored, o.image.height, events),
     }
 }
@@ -70,37 +68,35 @@ fn played_count(form: Form, stored: u16, height: u16, events: &[u8]) -> usize
     ensures { result ≡ played_count form stored height events.now }
 {
     match form {
-        Form::Panel => lines::count(events, stored, height),
-        Form::Lines => lines::count(events, stored, height),
+        Form::Panel | Form::Lines => lines::count(events, stored, height),
         Form::Graymap => height as usize + 1,
         Form::Png => height as usize + 2,
     }
 }
 
 // An evening without events has one unit.
-pub(crate) fn no_events(text: &mut [u8], held: usize, i: usize) -> usize
-    ensures { Puts (get_or (no_events_line ∷ []) i []) held result text.old text.new }
+#[tactic(auto, using(text::proofs::Filling::puts), unfolding(crate::specs::Lines::no_events_line))]
+pub(crate) fn no_events(text: &mut Text<'_>, i: usize)
+    ensures { text.new ≡ put (get_or (no_events_line ∷ []) i []) text.old }
 {
     if i == 0 {
-        return put(text, held, b"no events\n");
+        text.put(b"no events\n");
     }
-    put(text, held, b"")
 }
 
 // A refused capture has one unit.
-pub(crate) fn refused(text: &mut [u8], held: usize, no: u8, i: usize) -> usize
-    ensures { Puts (get_or (refused_line no ∷ []) i []) held result text.old text.new }
+pub(crate) fn refused(text: &mut Text<'_>, no: u8, i: usize)
+    ensures { text.new ≡ put (get_or (refused_line no ∷ []) i []) text.old }
 {
     if i == 0 {
-        return lines::refused(text, held, no);
+        lines::refused(text, no);
     }
-    put(text, held, b"")
 }
 
 // Unit i of a capture that was played.
+#[tactic(auto, unfolding(crate::specs::Units::png_units))]
 fn played(
-    text: &mut [u8],
-    held: usize,
+    text: &mut Text<'_>,
     form: Form,
     log: Log,
     image: PanelImage,
@@ -109,23 +105,22 @@ fn played(
     picture: &[u8],
     rows: &[u64],
     i: usize,
-) -> usize
-    ensures { Puts
-        (get_or (played_of form log image events.now answers.now picture.now rows.now) i [])
-        held result text.old text.new }
+)
+    ensures { text.new
+        ≡ put (get_or (played_of form log image events.now answers.now picture.now rows.now) i []) text.old }
 {
     match form {
-        Form::Panel => lines::unit(text, held, log, image, events, answers, picture, rows, i),
-        Form::Lines => lines::unit(text, held, log, image, events, answers, picture, rows, i),
-        Form::Graymap => pgm::unit(text, held, image, picture, i),
-        Form::Png => png_file::unit(text, held, image.width, image.height, picture, i),
+        Form::Panel | Form::Lines => {
+            lines::unit(text, log, image, events, answers, picture, rows, i)
+        }
+        Form::Graymap => pgm::unit(text, image, picture, i),
+        Form::Png => png_file::unit(text, image.width, image.height, picture, i),
     }
 }
 
 // Unit i.
 pub fn unit(
-    text: &mut [u8],
-    held: usize,
+    text: &mut Text<'_>,
     form: Form,
     o: Outcome,
     events: &[u8],
@@ -133,26 +128,22 @@ pub fn unit(
     picture: &[u8],
     rows: &[u64],
     i: usize,
-) -> usize
-    ensures { Puts
-        (get_or (units_of form o events.now answers.now picture.now rows.now) i [])
-        held result text.old text.new }
+)
+    ensures { text.new
+        ≡ put (get_or (units_of form o events.now answers.now picture.now rows.now) i []) text.old }
 {
-    let came = o.came;
-    let log = o.log;
-    let image = o.image;
-    match came {
-        Came::NoEvents => no_events(text, held, i),
-        Came::Refused(no) => refused(text, held, no, i),
+    match o.came {
+        Came::NoEvents => no_events(text, i),
+        Came::Refused(no) => refused(text, no, i),
         Came::Played => played(
-            text, held, form, log, image, events, answers, picture, rows, i,
+            text, form, o.log, o.image, events, answers, picture, rows, i,
         ),
     }
 }
 
 // The next part, from a unit on.
 pub fn next_part(
-    text: &mut [u8],
+    buffer: &mut [u8],
     form: Form,
     o: Outcome,
     events: &[u8],
@@ -163,18 +154,19 @@ pub fn next_part(
 ) -> Part
     ensures { Lays
         (units_of form o events.now answers.now picture.now rows.now)
-        from text.old text.new result }
+        from buffer.old buffer.new result }
 {
     let end = count(form, o, events);
-    let mut held: usize = 0;
-    let mut next = from;
-    while next < end {
-        let n = unit(text, held, form, o, events, answers, picture, rows, next);
-        if text.len() <= n {
+    let mut text = Text::new(buffer);
+    for next in from..end {
+        let held = text.held();
+        unit(&mut text, form, o, events, answers, picture, rows, next);
+        if text.is_full() {
             return Part { held, next };
         }
-        held = n;
-        next += 1;
     }
-    Part { held, next }
+    Part {
+        held: text.held(),
+        next: from.max(end),
+    }
 }

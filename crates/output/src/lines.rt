@@ -1,146 +1,137 @@
 // The lines of document 01's program.
 ghost use Rattle.std.specs.Prelude.{◌≡◌, [], ◌∷◌, ◌++◌, ◌+◌, ◌/◌, ◌<◌, length, get_or};
-ghost use Rattle.text.specs.Text.{Puts, ascii};
+ghost use Rattle.text.specs.Text.{ascii, put};
 ghost use Rattle.output.specs.Lines as lines;
 ghost use Rattle.output.specs.Units.{read_of, last_of, lines_of};
 
-use crate::parts::{greys_of, numbers_of};
+use crate::parts::row_of;
 use capture::{EVENT_BYTES, NO_READ, NOTHING, little};
 use diagnostic_log::Log;
 use glass::{PanelImage, RefreshKind};
-use text::{byte, decimal, number, put};
+use text::Text;
+
+// The numbers of a stored row.
+const NUMBERS: u16 = 5;
 
 // A refusal, by its number.
-pub(crate) fn refused(text: &mut [u8], held: usize, no: u8) -> usize
-    ensures { Puts (lines.refused_line no) held result text.old text.new }
+#[tactic(auto, using(text::proofs::Filling::puts), unfolding(crate::specs::Lines::refused_line))]
+pub(crate) fn refused(text: &mut Text<'_>, no: u8)
+    ensures { text.new ≡ put (lines.refused_line no) text.old }
 {
-    let head = put(text, held, b"refused");
-    let n = number(text, head, no as u64);
-    byte(text, n, b'\n')
+    text.put(b"refused");
+    text.number(no as u64);
+    text.byte(b'\n');
 }
 
 // A read, at the event's own time.
-fn read(text: &mut [u8], held: usize, time: u64, answer: u16) -> usize
-    ensures { Puts (lines.read_line time answer) held result text.old text.new }
+#[tactic(auto, using(text::proofs::Filling::puts), unfolding(crate::specs::Lines::read_line))]
+fn read(text: &mut Text<'_>, time: u64, answer: u16)
+    ensures { text.new ≡ put (lines.read_line time answer) text.old }
 {
-    let head = put(text, held, b"read");
-    let n = number(text, head, time);
+    text.put(b"read");
+    text.number(time);
     if answer == NOTHING {
-        return put(text, n, b" none\n");
+        text.put(b" none");
+    } else {
+        text.number(answer as u64);
     }
-    let end = number(text, n, answer as u64);
-    byte(text, end, b'\n')
+    text.byte(b'\n');
 }
 
 // The line of event i, if it is a read.
-fn read_at(text: &mut [u8], held: usize, events: &[u8], answers: &[u16], i: usize) -> usize
+fn read_at(text: &mut Text<'_>, events: &[u8], answers: &[u16], i: usize)
     requires { i < length events.now / 10 }
-    ensures { Puts (read_of events.now answers.now i) held result text.old text.new }
+    ensures { text.new ≡ put (read_of events.now answers.now i) text.old }
 {
-    if answers.len() <= i {
-        return put(text, held, b"");
+    if i < answers.len() && answers[i] != NO_READ {
+        read(text, little(events, i * EVENT_BYTES, 8), answers[i]);
     }
-    let answer = answers[i];
-    if answer == NO_READ {
-        return put(text, held, b"");
-    }
-    read(text, held, little(events, i * EVENT_BYTES, 8), answer)
 }
 
 // A stored row: its numbers, with a blank before each.
-fn diagnostic(text: &mut [u8], held: usize, row: &[u64]) -> usize
-    ensures { Puts (lines.diag_line row.now) held result text.old text.new }
+#[tactic(auto, using(text::proofs::Filling::puts, crate::proofs::Words::numbers), unfolding(crate::specs::Lines::diag_line))]
+fn diagnostic(text: &mut Text<'_>, row: &[u64])
+    ensures { text.new ≡ put (lines.diag_line row.now) text.old }
 {
-    let mut n = put(text, held, b"diag");
-    let mut k: usize = 0;
-    while k < row.len() {
-        n = number(text, n, row[k]);
-        k += 1;
+    text.put(b"diag");
+    for x in row {
+        text.number(*x);
     }
-    byte(text, n, b'\n')
+    text.byte(b'\n');
 }
 
-fn dropped(text: &mut [u8], held: usize, count: u64) -> usize
-    ensures { Puts (lines.dropped_line count) held result text.old text.new }
+#[tactic(auto, using(text::proofs::Filling::puts), unfolding(crate::specs::Lines::dropped_line))]
+fn dropped(text: &mut Text<'_>, count: u64)
+    ensures { text.new ≡ put (lines.dropped_line count) text.old }
 {
-    let head = put(text, held, b"dropped");
-    let n = number(text, head, count);
-    byte(text, n, b'\n')
+    text.put(b"dropped");
+    text.number(count);
+    text.byte(b'\n');
 }
 
-fn kind(text: &mut [u8], held: usize, k: RefreshKind) -> usize
-    ensures { Puts (32 ∷ lines.kind_word k) held result text.old text.new }
+fn kind(text: &mut Text<'_>, k: RefreshKind)
+    ensures { text.new ≡ put (32 ∷ lines.kind_word k) text.old }
 {
     match k {
-        RefreshKind::PowerOn => put(text, held, b" poweron"),
-        RefreshKind::Full => put(text, held, b" full"),
-        RefreshKind::Partial => put(text, held, b" partial"),
+        RefreshKind::PowerOn => text.put(b" poweron"),
+        RefreshKind::Full => text.put(b" full"),
+        RefreshKind::Partial => text.put(b" partial"),
     }
 }
 
-fn flag(text: &mut [u8], held: usize, b: bool) -> usize
-    ensures { Puts (32 ∷ lines.flag_word b) held result text.old text.new }
+fn flag(text: &mut Text<'_>, b: bool)
+    ensures { text.new ≡ put (32 ∷ lines.flag_word b) text.old }
 {
-    if b {
-        return put(text, held, b" 1");
-    }
-    put(text, held, b" 0")
+    text.put(if b { b" 1" } else { b" 0" });
 }
 
 // How the picture came about and when, the end of its head.
-fn refresh(text: &mut [u8], held: usize, i: PanelImage) -> usize
-    ensures { Puts (lines.behind (lines.refresh_words i) ++ ascii "\n") held result text.old text.new }
+fn refresh(text: &mut Text<'_>, i: PanelImage)
+    ensures { text.new ≡ put (lines.behind (lines.refresh_words i) ++ ascii "\n") text.old }
 {
-    let k = i.kind;
-    let kind_end = kind(text, held, k);
-    let flag_end = flag(text, kind_end, i.interrupted);
-    let start_end = number(text, flag_end, i.started);
-    let end = number(text, start_end, i.at);
-    byte(text, end, b'\n')
+    kind(text, i.kind);
+    flag(text, i.interrupted);
+    text.number(i.started);
+    text.number(i.at);
+    text.byte(b'\n');
 }
 
 // The head of the picture.
-fn image(text: &mut [u8], held: usize, i: PanelImage) -> usize
-    ensures { Puts (lines.image_line i) held result text.old text.new }
+fn image(text: &mut Text<'_>, i: PanelImage)
+    ensures { text.new ≡ put (lines.image_line i) text.old }
 {
-    let head = put(text, held, b"image");
-    let width_end = number(text, head, i.width as u64);
-    let height_end = number(text, width_end, i.height as u64);
-    let n = number(text, height_end, i.generation);
-    refresh(text, n, i)
+    text.put(b"image");
+    text.number(i.width as u64);
+    text.number(i.height as u64);
+    text.number(i.generation);
+    refresh(text, i);
 }
 
 // The greys of a row, with a blank between.
-fn greys(text: &mut [u8], held: usize, row: &[u8]) -> usize
-    ensures { Puts (lines.greys_line row.now) held result text.old text.new }
+#[tactic(auto, using(text::proofs::Filling::puts, crate::proofs::Words::numbers), unfolding(crate::specs::Lines::greys_line))]
+fn greys(text: &mut Text<'_>, row: &[u8])
+    ensures { text.new ≡ put (lines.greys_line row.now) text.old }
 {
-    if row.len() == 0 {
-        return byte(text, held, b'\n');
+    if let Some((first, rest)) = row.split_first() {
+        text.decimal(*first as u64);
+        for x in rest {
+            text.number(*x as u64);
+        }
     }
-    let mut n = decimal(text, held, row[0] as u64);
-    let mut x: usize = 1;
-    while x < row.len() {
-        n = number(text, n, row[x] as u64);
-        x += 1;
-    }
-    byte(text, n, b'\n')
+    text.byte(b'\n');
 }
 
 // Below the reads and the stored rows: the dropped count, the picture's head and its rows.
-fn below(text: &mut [u8], held: usize, lost: u64, i: PanelImage, picture: &[u8], k: usize) -> usize
-    ensures { Puts (get_or (last_of lost i picture.now) k []) held result text.old text.new }
+fn below(text: &mut Text<'_>, lost: u64, i: PanelImage, picture: &[u8], k: usize)
+    ensures { text.new ≡ put (get_or (last_of lost i picture.now) k []) text.old }
 {
     if k == 0 {
-        return dropped(text, held, lost);
+        dropped(text, lost);
+    } else if k == 1 {
+        image(text, i);
+    } else if k - 2 < i.height as usize {
+        greys(text, row_of(picture, i.width, (k - 2) as u16));
     }
-    if k == 1 {
-        return image(text, held, i);
-    }
-    let y = k - 2;
-    if i.height as usize <= y {
-        return put(text, held, b"");
-    }
-    greys(text, held, greys_of(picture, i.width, y as u16))
 }
 
 // How many lines there are, an empty one for each event that is no read.
@@ -152,8 +143,7 @@ pub(crate) fn count(events: &[u8], stored: u16, height: u16) -> usize
 
 // Line i: the reads, the stored rows, and what stands below them.
 pub(crate) fn unit(
-    text: &mut [u8],
-    held: usize,
+    text: &mut Text<'_>,
     log: Log,
     image: PanelImage,
     events: &[u8],
@@ -161,19 +151,18 @@ pub(crate) fn unit(
     picture: &[u8],
     rows: &[u64],
     i: usize,
-) -> usize
-    ensures { Puts
-        (get_or (lines_of log image events.now answers.now picture.now rows.now) i [])
-        held result text.old text.new }
+)
+    ensures { text.new
+        ≡ put (get_or (lines_of log image events.now answers.now picture.now rows.now) i []) text.old }
 {
     let reads = events.len() / EVENT_BYTES;
     if i < reads {
-        return read_at(text, held, events, answers, i);
+        return read_at(text, events, answers, i);
     }
     let j = i - reads;
     let stored = log.stored as usize;
     if j < stored {
-        return diagnostic(text, held, numbers_of(rows, j as u16));
+        return diagnostic(text, row_of(rows, NUMBERS, j as u16));
     }
-    below(text, held, log.dropped, image, picture, j - stored)
+    below(text, log.dropped, image, picture, j - stored);
 }

@@ -1,28 +1,26 @@
 // Greys as bytes: one a grey up to a top of 255, else two, the higher first.
-ghost use Rattle.text.specs.Text.{Puts};
+ghost use Rattle.std.specs.Prelude.{◌≡◌};
+ghost use Rattle.text.specs.Text.{put};
 ghost use Rattle.output.specs.Units.{sample_of, samples_of};
 
-use text::{byte, put};
+use text::Text;
 
-fn sample(text: &mut [u8], held: usize, x: u16, top: u16) -> usize
-    ensures { Puts (sample_of top x) held result text.old text.new }
+#[tactic(auto, using(text::proofs::Filling::puts), unfolding(crate::specs::Units::sample_of))]
+fn sample(text: &mut Text<'_>, x: u16, top: u16)
+    ensures { text.new ≡ put (sample_of top x) text.old }
 {
-    if top <= 255 {
-        return byte(text, held, (x % 0x100) as u8);
+    if top > 255 {
+        text.byte((x / 0x100) as u8);
     }
-    let n = byte(text, held, (x / 0x100) as u8);
-    byte(text, n, (x % 0x100) as u8)
+    text.byte((x % 0x100) as u8);
 }
 
 // Those of a row.
-pub(crate) fn samples(text: &mut [u8], held: usize, row: &[u16], top: u16) -> usize
-    ensures { Puts (samples_of top row.now) held result text.old text.new }
+#[tactic(auto, using(text::proofs::Filling::puts, crate::proofs::SampleLaws::samples_more))]
+pub(crate) fn samples(text: &mut Text<'_>, row: &[u16], top: u16)
+    ensures { text.new ≡ put (samples_of top row.now) text.old }
 {
-    let mut n = put(text, held, b"");
-    let mut x: usize = 0;
-    while x < row.len() {
-        n = sample(text, n, row[x], top);
-        x += 1;
+    for x in row {
+        sample(text, *x, top);
     }
-    n
 }

@@ -2,7 +2,7 @@
 // its glass made of it, `refused` and a number, or `no events` for an empty file.
 #![tactic(auto)]
 
-use input::{Input, front, read_all};
+use input::{front, read_all};
 use showing::{INPUT, show_panel};
 
 fn run<R: Print + Eprint>(rt: &R, file: &[u8]) {
@@ -14,10 +14,9 @@ fn run<R: Print + Eprint>(rt: &R, file: &[u8]) {
 fn main(rt: HostRuntime) {
     let mut buffer = [0u8; INPUT];
     let mut input = rt.reader();
-    let got = read_all(&mut input, &mut buffer);
-    match got {
-        Input::Bytes(n) => run(&rt, front(&buffer, n)),
-        Input::Failed(_) => {
+    match read_all(&mut input, &mut buffer) {
+        Ok(n) => run(&rt, front(&buffer, n)),
+        Err(_) => {
             let _ = eprintln!(rt; "could not read standard input");
         }
     }

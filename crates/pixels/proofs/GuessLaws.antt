@@ -3,34 +3,20 @@
 use mathlib.Core.Path.{◌≡◌, sym, ap, subst, ◌∙◌}
 use mathlib.Core.List.{List}
 use Prim.Native.Nat.{ℕ, ◌+◌, ◌*◌, ◌/◌, ◌≤◌, ◌<◌}
-use native.Mathlib.Nat.{le_trans, mul-le-mul, mul_comm, mul_assoc, mul-add, add-mul, mul_left_comm, mul-le-mul_left, mul-le-mul_right}
-use native.Mathlib.Decide.{ℕ_discrete}
+use native.Mathlib.Nat.{le_trans, mul_comm, mul_assoc, mul-add, add-mul, mul_left_comm, mul-le-mul_left, mul-le-mul_right}
 use native.Mathlib.Omega.{arith}
-use lib.ListN.{get_or, set, length-set}
-use lib.Seq.{get_or-set_same, get_or-set_other}
+use lib.ListN.{get_or}
 use Rattle.glass.specs.Gray.{gray_at, gray_of}
 use Rattle.glass.proofs.GrayLaws.{gray_between, gray_from}
-use Rattle.base.specs.Word.{top}
 use Rattle.pixels.specs.declared.Scale.{Scale}
 use Rattle.pixels.specs.declared.Wide.{Wide}
-use Rattle.pixels.specs.InnerGuess.{threshold_of, Thresholds, unit, white, fine, Scaled, Prepared}
+use Rattle.pixels.specs.InnerGuess.{Thresholds, unit, white, fine, Scaled, Prepared}
 
 -- from the threshold of q to below the next one
 pub confirmed : (s x q : ℕ) (from : List ℕ) → Thresholds s from 257 → q ≤ 255 → get_or from q 0 ≤ x → x < get_or from (q + 1) 0 → gray_of x s ≡ q
 confirmed s x q from t k l u =
     gray_between q x s k (omega (arith, t.each q (omega arith), t.each (q + 1) (omega arith)))
     (omega (arith, t.each (q + 1) (omega arith)))
-
--- one threshold more is written
-pub more_thresholds : (s q v : ℕ) (from : List ℕ) → Thresholds s from q → q < 257 → v ≡ threshold_of q s
-    → Thresholds s (set from q v) (q + 1)
-more_thresholds s q v from t h e = record { long = length-set from q v ∙ t.long; each = λ k l. entry k l (ℕ_discrete k q) }
-  where
-    entry : (k : ℕ) → k < q + 1 → Dec (k ≡ q) → get_or (set from q v) k 0 ≡ threshold_of k s
-    entry k l (yes same) =
-        ap (λ (j : ℕ). get_or (set from q v) j 0) same ∙ get_or-set_same from q v 0 (omega (arith, t.long))
-        ∙ e ∙ ap (λ (j : ℕ). threshold_of j s) (sym same)
-    entry k l (no other) = get_or-set_other from q k v 0 other ∙ t.each k (omega (arith, other))
 
 -- what a state's leading bits, at most the swing's, come to
 pub product : (c : Scale) (a most : ℕ) → Scaled c most → a ≤ c.most → a * c.factor ≤ most
@@ -49,20 +35,7 @@ prepared_own {s} {t} {w} p =
 
 -- ---- a guess q at a top t, tested by the swing divided by twice the top
 module _ (t : ℕ) (w : Wide) (p : Prepared w.swing t w) where
-  -- all fits 64 bits
-  pub half_fits : 2 * w.whole ≤ top
-  half_fits = omega (arith, p.word, p.split, p.some, mul_comm w.whole 2, mul-le-mul_left {m = 2} {n = 2 * t} w.whole (omega (arith, p.some)))
-
-  pub near_fits : (near : ℕ) → near ≤ 0x4_0000 → w.double * near ≤ 131_070 * 0x4_0000
-  near_fits near h = mul-le-mul {n₁ = w.double} {m₁ = near} {n₂ = 131_070} {m₂ = 0x4_0000} (omega (arith, p.double, p.fits)) h
-
   module _ (q : ℕ) (k : q ≤ t) where
-    pub wanted_fits : 2 * q * w.whole ≤ top
-    wanted_fits = omega (arith, p.word, p.split, mul_comm w.whole (2 * t), mul-le-mul_right {m = 2 * q} {n = 2 * t} w.whole (omega arith))
-
-    pub part_fits : 2 * q * w.rest ≤ 131_070 * 131_070
-    part_fits = mul-le-mul {n₁ = 2 * q} {m₁ = w.rest} {n₂ = 131_070} {m₂ = 131_070} (omega (arith, p.fits)) (omega (arith, p.fits, p.left))
-
     -- twice the guess in swings
     in_swings : q * (2 * w.swing) ≡ 2 * q * w.whole * (2 * t) + 2 * q * w.rest
     in_swings =

@@ -1,44 +1,14 @@
--- What loops over buffers leave: filled from the front, changed by what stands beside, tested entry by entry.
-use mathlib.Core.Path.{◌≡◌, refl, sym, ap, ◌∙◌}
-use mathlib.Core.Bool.{Bool, true, false, ◌&&◌}
-use mathlib.Core.List.{List, [], ◌∷◌, ◌++◌, append-nil}
+-- What loops over buffers leave: changed by what stands beside, tested entry by entry.
+use mathlib.Core.Path.{◌≡◌, refl, ap, ◌∙◌}
+use mathlib.Core.Bool.{Bool, true, false}
+use mathlib.Core.List.{List, [], ◌∷◌, ◌++◌}
 use Prim.Native.Nat.{ℕ, zero, suc, ◌+◌, ◌≤◌, ◌<◌, min}
 use native.Mathlib.Nat.{not-suc-le-zero, le_of_suc-le-suc}
 use native.Mathlib.Numerals.{add-one}
 use native.Mathlib.Omega.{arith}
-use lib.ListN.{length, get_or, set, take, drop, replicate, length-set, drop_of_length-le}
-use lib.Seq.{drop-cons}
+use lib.ListN.{length, get_or, set, take, drop, replicate, length-set}
 use Rattle.base.specs.Pick.{pick}
 use Rattle.pixels.specs.Lists.{beside, every}
-
--- ---- filled from the front: after i turns the first i entries are a, and the others as they were
-pub record Filled {A : Type 0} (a : A) (l₀ l : List A) (i : ℕ) : Type 0 where
-  pub is : l ≡ replicate i a ++ drop i l₀
-  pub count : i ≤ length l₀
-  pub long : length l ≡ length l₀
-
-module _ {A : Type 0} (a : A) where
-  fill_suc : (i : ℕ) (l : List A) → i < length l → set (replicate i a ++ drop i l) i a ≡ replicate (suc i) a ++ drop (suc i) l
-  fill_suc i [] h = absurd (not-suc-le-zero h)
-  fill_suc zero (x ∷ l) h = refl
-  fill_suc (suc i) (x ∷ l) h = ap (λ (t : List A). a ∷ t) (fill_suc i l (le_of_suc-le-suc h))
-
-  pub filled_none : (l₀ : List A) → Filled a l₀ l₀ 0
-  filled_none l₀ = record { is = refl; count = omega arith; long = refl }
-
-  pub filled_more : (l₀ l : List A) (i : ℕ) → Filled a l₀ l i → i < length l → Filled a l₀ (set l i a) (i + 1)
-  filled_more l₀ l i f h = record {
-    is = ap (λ (t : List A). set t i a) f.is ∙ rw (add-one i) (fill_suc i l₀ (omega (arith, f.long)));
-    count = omega (arith, f.long);
-    long = length-set l i a ∙ f.long;
-  }
-
-  pub filled_done : (l₀ l : List A) (i : ℕ) → Filled a l₀ l i → length l ≤ i → l ≡ replicate (length l₀) a
-  filled_done l₀ l i f h =
-      f.is
-      ∙ ap (λ (t : List A). replicate i a ++ t) (drop_of_length-le l₀ {i = i} (omega (arith, f.long)))
-      ∙ append-nil (replicate i a)
-      ∙ ap (λ (n : ℕ). replicate n a) {x = i} {y = length l₀} (omega (arith, f.long, f.count))
 
 -- ---- changed by what stands beside: after i turns by the first i of the other list
 pub record Changed {A B : Type 0} (f : B → A → A) (bs : List B) (l₀ l : List A) (i : ℕ) : Type 0 where
@@ -73,9 +43,6 @@ module _ {A B : Type 0} (f : B → A → A) where
   beside_done (suc i) (b ∷ bs) [] h = refl
   beside_done zero (b ∷ bs) (x ∷ l) h = absurd (omega arith)
   beside_done (suc i) (b ∷ bs) (x ∷ l) h = ap (λ (t : List A). f b x ∷ t) (beside_done i bs l (omega arith))
-
-  pub changed_none : (bs : List B) (l₀ : List A) → Changed f bs l₀ l₀ 0
-  changed_none bs l₀ = record { is = refl; long = refl }
 
   pub changed_more : (bs : List B) (l₀ l : List A) (i : ℕ) (e : B) (d v : A) → Changed f bs l₀ l i → i < length bs → i < length l₀ →
       v ≡ f (get_or bs i e) (get_or l i d) → Changed f bs l₀ (set l i v) (i + 1)
@@ -120,26 +87,7 @@ both true b e = (refl, e)
 both false true e = (e, refl)
 both false false e = (e, e)
 
-also : (a b c : Bool) → pick (a && b) c false ≡ pick a (pick b c false) false
-also true b c = refl
-also false b c = refl
-
-alone : (a : Bool) → a ≡ pick a true false
-alone true = refl
-alone false = refl
-
 module _ {A : Type 0} (p : A → Bool) where
-  -- a loop that looks at each entry: whether those before entry i passed, and what is left, decide
-  pub every_more : (l : List A) (i : ℕ) (d : A) (a b : Bool) → i < length l → b ≡ p (get_or l i d) →
-      pick a (every p (drop i l)) false ≡ every p l → pick (a && b) (every p (drop (i + 1) l)) false ≡ every p l
-  every_more l i d a b h e q = also a b (every p (drop (i + 1) l)) ∙ ap (λ (t : Bool). pick a t false) next ∙ q
-    where
-      next : pick b (every p (drop (i + 1) l)) false ≡ every p (drop i l)
-      next = rw (e, add-one i, drop-cons l i d h)
-
-  pub every_done : (l : List A) (i : ℕ) (a : Bool) → length l ≤ i → pick a (every p (drop i l)) false ≡ every p l → a ≡ every p l
-  every_done l i a h q = alone a ∙ ap (λ (t : List A). pick a (every p t) false) (sym (drop_of_length-le l h)) ∙ q
-
   -- where all pass each does, and the other way round
   pub every_at : (l : List A) → every p l ≡ true → (i : ℕ) → i < length l → (d : A) → p (get_or l i d) ≡ true
   every_at [] e i h d = absurd (not-suc-le-zero h)

@@ -1,7 +1,7 @@
 -- A transfer made ready moves a state as the transfer does: taking from what is held to raised ends is holding what was taken from.
 use mathlib.Core.Path.{◌≡◌, refl, sym, ap, ◌∙◌}
 use mathlib.Core.List.{List, [], ◌∷◌}
-use Prim.Native.Nat.{ℕ, zero, suc, ◌+◌, ◌-◌, ◌≤◌, ◌<◌, min, max}
+use Prim.Native.Nat.{ℕ, ◌+◌, ◌-◌, ◌≤◌, min, max}
 use native.Mathlib.Omega.{arith}
 use lib.Dec.{ltb}
 use lib.IntN.{ℤ, pos}
@@ -12,7 +12,7 @@ use Rattle.glass.specs.declared.Transfer.{Transfer}
 use Rattle.glass.proofs.TransferLaws.{act_is, held_move}
 use Rattle.pixels.specs.declared.Ready.{Ready}
 use Rattle.pixels.specs.States.{most}
-use Rattle.pixels.specs.Drive.{by_number, moved_once, moved_by}
+use Rattle.pixels.specs.Drive.{moved_once, moved_by}
 use Rattle.pixels.specs.InnerReady.{past, ready_of, Bounded, moved_ready, slot_of}
 use Rattle.pixels.proofs.DriveLaws.{number_both}
 
@@ -46,18 +46,6 @@ unread = record { plus = 0; minus = 0; low = 0; high = 0 }
 -- ---- the four transfers, and the last again for a number with none
 abbrev pub readied : Transfer → Transfer → Transfer → Transfer → List Ready
 readied ww kw wk kk = ready_of ww ∷ ready_of kw ∷ ready_of wk ∷ ready_of kk ∷ ready_of kk ∷ []
-
-pub slot_table : (n : ℕ) → 0 < n → n ≤ 4 → slot_of n ≡ n - 1
-unfolding by_number
-slot_table zero h k = absurd (omega arith)
-slot_table (suc zero) h k = refl
-slot_table (suc (suc zero)) h k = refl
-slot_table (suc (suc (suc zero))) h k = refl
-slot_table (suc (suc (suc (suc zero)))) h k = refl
-slot_table (suc (suc (suc (suc (suc n))))) h k = absurd (omega arith)
-
-pub slot_five : (n : ℕ) → slot_of n < 5
-slot_five n = number_both (λ (k m : ℕ). k < 5) 0 1 2 3 4 0 0 0 0 0 n (omega arith) (omega arith) (omega arith) (omega arith) (omega arith)
 
 -- what is read in the slot of a number n
 module _ (ww kw wk kk : Transfer) (ts : List Ready) (n k : ℕ) (five : ts ≡ readied ww kw wk kk) (slot : k ≡ slot_of n) where

@@ -2,7 +2,7 @@
 // pixel.
 #![tactic(auto)]
 
-ghost use Rattle.std.specs.Prelude.{◌≡◌, true, ◌*◌, ◌≤◌, min, ltb, length, replicate};
+ghost use Rattle.std.specs.Prelude.{◌≡◌, true, ◌*◌, ◌≤◌, ◌<◌, ltb, length, replicate};
 ghost use Rattle.base.specs.Integer.{up};
 ghost use Rattle.base.specs.Pick.{pick};
 ghost use Rattle.glass.specs.Gray.{top_of, gray_at, gray_of};
@@ -12,8 +12,8 @@ ghost use Rattle.pixels.specs.InnerReady.{ready_of, Bounded, moved_ready, slot_o
 ghost use Rattle.pixels.specs.Draw.{drawn_at, drawn};
 ghost use Rattle.pixels.specs.InnerGuess.{threshold_of, Thresholds, white, Scaled, Prepared};
 
-use base::{KK, greatest, least, saturating_add, saturating_mul, saturating_sub};
-use glass::{Transfer, gray, gray_at, top_of};
+use base::KK;
+use glass::{Transfer, Transfers, gray, gray_at, top_of};
 
 // The largest state that an i64 holds: 2^63 - 1.
 const MOST: u64 = 0x7FFF_FFFF_FFFF_FFFF;
@@ -21,7 +21,7 @@ const MOST: u64 = 0x7FFF_FFFF_FFFF_FFFF;
 // A move that takes every state past every other: 2^63.
 const PAST: u64 = 0x8000_0000_0000_0000;
 
-// Where no transfer of the four stands.
+// Where no transfer of the four stands: a number and no Option, as the definition `slot_of` has it.
 const NO_SLOT: usize = 4;
 
 // A threshold for each grey, and for the one past white.
@@ -42,54 +42,21 @@ const FAR: u64 = 0x4_0000;
 fn above(z: i64) -> u64
     ensures { result ≡ up z }
 {
-    if z < 0 { 0 } else { z as u64 }
+    z.max(0) as u64
 }
 
 // A state as the buffer holds it.
 fn held(x: u64) -> i64
     ensures { result ≡ state_held x }
 {
-    least(x, MOST) as i64
-}
-
-fn shorter(a: usize, b: usize) -> usize
-    ensures { result ≡ min a b }
-{
-    if a < b { a } else { b }
+    x.min(MOST) as i64
 }
 
 // Every state becomes one.
 pub fn fill_states(states: &mut [i64], state: u64)
     ensures { states.new ≡ replicate (length states.old) (state_held state) }
 {
-    let z = held(state);
-    let mut i = 0;
-    while i < states.len() {
-        states[i] = z;
-        i += 1;
-    }
-}
-
-// Every byte becomes one: the picture the initial grey, planes 0.
-pub fn fill_bytes(bytes: &mut [u8], b: u8)
-    ensures { bytes.new ≡ replicate (length bytes.old) b }
-{
-    let mut i = 0;
-    while i < bytes.len() {
-        bytes[i] = b;
-        i += 1;
-    }
-}
-
-// Every number of the diagnostics becomes 0.
-pub fn fill_words(words: &mut [u64])
-    ensures { words.new ≡ replicate (length words.old) 0 }
-{
-    let mut i = 0;
-    while i < words.len() {
-        words[i] = 0;
-        i += 1;
-    }
+    states.fill(held(state));
 }
 
 // A transfer made ready for states up to 2^63 - 1: `plus` is added to a state, the sum is held to
@@ -104,41 +71,39 @@ struct Ready {
 }
 
 impl Ready {
+    #[tactic(auto, unfolding(crate::specs::InnerReady::ready_of))]
     fn new(t: Transfer) -> Ready
         ensures { result ≡ ready_of t }
     {
-        let plus = least(saturating_sub(t.up, t.down), PAST);
-        let minus = least(saturating_sub(t.down, t.up), PAST);
-        let lo = least(t.lo, MOST);
-        let hi = least(t.hi, MOST);
+        let plus = t.up.saturating_sub(t.down).min(PAST);
+        let minus = t.down.saturating_sub(t.up).min(PAST);
         Ready {
             plus,
             minus,
-            low: lo + minus,
-            high: hi + minus,
+            low: t.lo.min(MOST) + minus,
+            high: t.hi.min(MOST) + minus,
         }
     }
 
     // The state that a state becomes.
+    #[tactic(auto, unfolding(crate::specs::InnerReady::moved_ready))]
     fn apply(self, z: i64) -> i64
         requires { Bounded self }
         ensures { result ≡ moved_ready self z }
     {
-        (greatest(self.low, least(above(z) + self.plus, self.high)) - self.minus) as i64
+        ((above(z) + self.plus).min(self.high).max(self.low) - self.minus) as i64
     }
 }
 
 // Where a table number's transfer stands among the four; past them where it has none.
+#[tactic(auto, unfolding(crate::specs::Drive::by_number))]
 fn slot(number: u8) -> usize
-    ensures { result ≡ slot_of number }
+    ensures { (result ≡ slot_of number) × (result < 5) }
 {
-    if number == 0 {
-        return NO_SLOT;
+    match number {
+        1..=KK => number as usize - 1,
+        _ => NO_SLOT,
     }
-    if number <= KK {
-        return number as usize - 1;
-    }
-    NO_SLOT
 }
 
 // The state y that a move gives, where the slot is a transfer's, else the state z as it was.
@@ -150,32 +115,21 @@ fn if_driven(slot: usize, y: i64, z: i64) -> i64
 
 // Every state moves by the transfer of its table number. Another number leaves it, and so does a
 // missing one. Numbers come in no order, so a pixel's transfer is looked up, with no branch.
-pub fn drive(
-    states: &mut [i64],
-    numbers: &[u8],
-    ww: Transfer,
-    kw: Transfer,
-    wk: Transfer,
-    kk: Transfer,
-)
-    ensures { states.new ≡ driven ww kw wk kk numbers.now states.old }
+pub fn drive(states: &mut [i64], numbers: &[u8], t: Transfers)
+    ensures { states.new ≡ driven t.ww t.kw t.wk t.kk numbers.now states.old }
 {
-    let n = shorter(states.len(), numbers.len());
     let ts = [
-        Ready::new(ww),
-        Ready::new(kw),
-        Ready::new(wk),
-        Ready::new(kk),
-        Ready::new(kk),
+        Ready::new(t.ww),
+        Ready::new(t.kw),
+        Ready::new(t.wk),
+        Ready::new(t.kk),
+        Ready::new(t.kk),
     ];
-    let mut i: usize = 0;
-    while i < n {
+    let n = states.len().min(numbers.len());
+    for i in 0..n {
         let z = states[i];
         let k = slot(numbers[i]);
-        let t = ts[k];
-        let y = if_driven(k, t.apply(z), z);
-        states[i] = y;
-        i += 1;
+        states[i] = if_driven(k, ts[k].apply(z), z);
     }
 }
 
@@ -184,21 +138,17 @@ fn threshold(q: u64, swing: u64) -> u64
     requires { q ≤ 256 }
     ensures { result ≡ threshold_of q swing }
 {
-    let m = saturating_sub(2 * q, 1);
-    saturating_add(
-        saturating_mul(m, swing / 510),
-        (m * (swing % 510) + 509) / 510,
-    )
+    let m = (2 * q).saturating_sub(1);
+    m.saturating_mul(swing / 510)
+        .saturating_add((m * (swing % 510) + 509) / 510)
 }
 
 fn thresholds(swing: u64) -> [u64; THRESHOLDS]
     ensures { Thresholds swing result 257 }
 {
     let mut from = [0u64; THRESHOLDS];
-    let mut q: usize = 0;
-    while q < THRESHOLDS {
+    for q in 0..THRESHOLDS {
         from[q] = threshold(q as u64, swing);
-        q += 1;
     }
     from
 }
@@ -216,8 +166,7 @@ struct Scale {
 fn excess(x: u64) -> u32
     ensures { result ≤ 32 }
 {
-    let zeros = u64::leading_zeros(x);
-    if zeros < 32 { 32 - zeros } else { 0 }
+    32u32.saturating_sub(x.leading_zeros())
 }
 
 // White in units of a guess, divided by the number that stands for it.
@@ -251,10 +200,8 @@ fn shade(x: u64, swing: u64, scale: Scale, from: &[u64]) -> u8
     let a = x >> scale.shift;
     if a <= scale.most {
         let q = ((a * scale.factor + UNIT / 2) / UNIT) as usize;
-        if from[q] <= x {
-            if x < from[q + 1] {
-                return q as u8;
-            }
+        if from[q] <= x && x < from[q + 1] {
+            return q as u8;
         }
     }
     gray(x, swing)
@@ -264,15 +211,11 @@ fn shade(x: u64, swing: u64, scale: Scale, from: &[u64]) -> u8
 pub fn draw(picture: &mut [u8], states: &[i64], swing: u64)
     ensures { picture.new ≡ drawn swing states.now picture.old }
 {
-    let n = shorter(picture.len(), states.len());
+    let n = picture.len().min(states.len());
     let from = thresholds(swing);
     let scale = Scale::new(swing, WHITE);
-    let mut i: usize = 0;
-    while i < n {
-        let z = states[i];
-        let x = above(z);
-        picture[i] = shade(x, swing, scale, &from);
-        i += 1;
+    for i in 0..n {
+        picture[i] = shade(above(states[i]), swing, scale, &from);
     }
 }
 
@@ -319,17 +262,14 @@ fn is_grey(q: u64, x: u64, w: Wide) -> bool
     }
     let over = reached - wanted;
     let part = 2 * q * w.rest;
-    if w.double * least(over, FAR) + w.rest < part {
+    if w.double * over.min(FAR) + w.rest < part {
         return false;
     }
     if over < 2 * w.whole {
         return true;
     }
     let past = over - 2 * w.whole;
-    if FAR <= past {
-        return false;
-    }
-    w.double * past < part + w.rest
+    past < FAR && w.double * past < part + w.rest
 }
 
 // The grey of a state at a top, guessed as `shade` does and tested without a table.
@@ -352,14 +292,10 @@ fn shade_wide(x: u64, w: Wide) -> u16
 pub fn draw_wide(picture: &mut [u16], states: &[i64], swing: u64, top: u16)
     ensures { picture.new ≡ drawn_at (top_of top) swing states.now picture.old }
 {
-    let n = shorter(picture.len(), states.len());
+    let n = picture.len().min(states.len());
     let w = Wide::new(swing, top);
-    let mut i: usize = 0;
-    while i < n {
-        let z = states[i];
-        let x = above(z);
-        picture[i] = shade_wide(x, w);
-        i += 1;
+    for i in 0..n {
+        picture[i] = shade_wide(above(states[i]), w);
     }
 }
 
@@ -367,7 +303,7 @@ pub fn draw_wide(picture: &mut [u16], states: &[i64], swing: u64, top: u16)
 fn is_state(z: i64, swing: u64) -> bool
     ensures { result ≡ is_state swing z }
 {
-    if z < 0 { false } else { above(z) <= swing }
+    0 <= z && above(z) <= swing
 }
 
 // Whether every state lies in 0 ..= swing.
@@ -375,11 +311,8 @@ pub fn all_states(states: &[i64], swing: u64) -> bool
     ensures { result ≡ every_state swing states.now }
 {
     let mut all = true;
-    let mut i = 0;
-    while i < states.len() {
-        let z = states[i];
-        all = all & is_state(z, swing);
-        i += 1;
+    for z in states {
+        all &= is_state(*z, swing);
     }
     all
 }

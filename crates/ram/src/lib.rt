@@ -65,24 +65,17 @@ pub fn bit(plane: &[u8], x: u16, y: u16) -> u8
     bit_of(byte_at(plane, at), x as usize % 8)
 }
 
-// What stands at a place: a bit of the RAM, or nothing past it.
-#[derive(Clone, Copy)]
-pub enum Found {
-    Bit(u8),
-    Nothing,
-}
-
 // A pixel of the RAM, nothing past its 800 columns and 600 rows.
-pub fn ram_bit(plane: &[u8], x: u16, y: u16) -> Found
+pub fn ram_bit(plane: &[u8], x: u16, y: u16) -> Option<u8>
     ensures { result ≡ ram_bit plane.now x y }
 {
     if RAM_SOURCES <= x {
-        return Found::Nothing;
+        return None;
     }
     if RAM_GATES <= y {
-        return Found::Nothing;
+        return None;
     }
-    Found::Bit(bit(plane, x, y))
+    Some(bit(plane, x, y))
 }
 
 // One bit, if it lies inside the area.
@@ -105,22 +98,17 @@ fn write_bit(plane: &mut [u8], area: Area, x: usize, y: u16, v: u8)
 fn write_bits(plane: &mut [u8], area: Area, x: u16, y: u16, byte: u8)
     ensures { plane.new ≡ written plane.old area x y byte }
 {
-    for k in 0..8usize {
+    for k in 0..8 {
         write_bit(plane, area, x as usize + k, y, bit_of(byte, k));
     }
 }
 
 // Whether the eight pixels from a place are one byte of a plane and lie inside the area.
+#[tactic(auto, unfolding(crate::specs::InnerBytewise::whole_byte))]
 fn whole_byte(area: Area, x: u16, y: u16) -> bool
     ensures { result ≡ whole_byte area x y }
 {
-    if x % 8 != 0 {
-        return false;
-    }
-    if !area.contains(x, y) {
-        return false;
-    }
-    area.contains(x + 7, y)
+    x % 8 == 0 && area.contains(x, y) && area.contains(x + 7, y)
 }
 
 // The eight pixels of a byte from a place, highest bit first, those inside the area.
@@ -134,28 +122,17 @@ pub fn write(plane: &mut [u8], area: Area, x: u16, y: u16, byte: u8)
     write_bits(plane, area, x, y, byte);
 }
 
-fn saturating_add(a: u16, b: u16) -> u16
-    ensures { result ≡ min (a + b) 65535 }
-{
-    if LAST - b < a { LAST } else { a + b }
-}
-
 // The place of the next pixel byte: along the row, then on the next one.
+#[tactic(auto, unfolding(crate::specs::Write::next_of))]
 pub fn next(area: Area, at: Cursor) -> Cursor
     ensures { result ≡ next_of area at }
 {
-    let x = saturating_add(at.x, 8);
+    let x = at.x.saturating_add(8);
     if area.x1 < x {
-        let y = saturating_add(at.y, 1);
+        let y = at.y.saturating_add(1);
         return Cursor { x: area.x0, y };
     }
     Cursor { x, y: at.y }
-}
-
-fn least(a: usize, b: usize) -> usize
-    ensures { result ≡ min a b }
-{
-    if a < b { a } else { b }
 }
 
 // How many columns or rows there are from the first to the last.
@@ -163,9 +140,10 @@ fn count(first: u16, last: u16) -> usize
     ensures { result ≡ last + 1 - first }
 {
     if last < first {
-        return 0;
+        0
+    } else {
+        (last - first) as usize + 1
     }
-    (last - first) as usize + 1
 }
 
 // The n pixels from a place, which stand in one byte.
@@ -198,13 +176,13 @@ fn copy_some(old: &mut [u8], new: &[u8], x: usize, y: usize, n: usize) -> usize
     if x % 8 == 0 {
         if 0 < bytes {
             let at = place(x, y);
-            if at + bytes <= least(old.len(), new.len()) {
+            if at + bytes <= old.len().min(new.len()) {
                 copy_bytes(old, new, at, bytes);
                 return bytes * 8;
             }
         }
     }
-    let bits = least(8 - x % 8, n);
+    let bits = (8 - x % 8).min(n);
     copy_byte(old, new, x, y, bits);
     bits
 }
@@ -216,6 +194,7 @@ fn copy_row(old: &mut [u8], new: &[u8], area: Area, y: usize)
 {
     let columns = count(area.x0, area.x1);
     let mut done: usize = 0;
+    // no `for`: a turn passes as many pixels as it answers
     while done < columns {
         let n = copy_some(old, new, area.x0 as usize + done, y, columns - done);
         done += n;

@@ -2,6 +2,7 @@
 -- A kind is called listed exactly if some value is listed for it.
 use mathlib.Core.Path.{◌≡◌, refl, sym, subst, ◌∙◌}
 use mathlib.Core.Bool.{Bool, true, false, not, true≢false}
+use Rattle.std.proofs.Common.{Option, Some, None}
 use mathlib.Core.List.{List}
 use Prim.Native.Nat.{ℕ, zero, suc, ◌+◌, ◌-◌, ◌≤◌, ◌<◌}
 use native.Mathlib.Nat.{zero-add}
@@ -71,7 +72,7 @@ known_none kind value e =
 module _ (file : List ℕ) (i n : ℕ) (h : i < n) where
   -- it is event i
   pub fault_here : {kind value : ℕ} → kind ≡ kind_at file i → value ≡ value_at file i → listed kind value ≡ false
-      → fault i kind value ≡ first_fault file i (n - i)
+      → Some (fault i kind value) ≡ first_fault file i (n - i)
   fault_here k v e =
       let m : n - i ≡ suc (n - (i + 1)) = omega arith in
       rw (m, ← k, ← v, e)
@@ -90,16 +91,16 @@ pub record First (file : List ℕ) (n i : ℕ) : Type 0 where
   pub before : (k : ℕ) → k < i → listed (kind_at file k) (value_at file k) ≡ true
 
 -- the first that is not listed, for its kind or for its value; or each is
-abbrev pub Faulty : List ℕ → ℕ → Reason → Type 0
-Faulty file n (reason.Kind i kind) = First file n i × (kind ≡ kind_at file i) × (known kind ≡ false)
-Faulty file n (reason.Value i kind value) = First file n i × (kind ≡ kind_at file i) × (value ≡ value_at file i) × (known kind ≡ true)
-Faulty file n reason.Neither = (k : ℕ) → k < n → listed (kind_at file k) (value_at file k) ≡ true
-Faulty file n (reason.Short bytes) = ⊥
-Faulty file n (reason.Long bytes) = ⊥
-Faulty file n (reason.Offset offset count) = ⊥
-Faulty file n (reason.Length bytes offset) = ⊥
-Faulty file n (reason.Variant v) = ⊥
-Faulty file n (reason.Flags f) = ⊥
+abbrev pub Faulty : List ℕ → ℕ → Option Reason → Type 0
+Faulty file n (Some (reason.Kind i kind)) = First file n i × (kind ≡ kind_at file i) × (known kind ≡ false)
+Faulty file n (Some (reason.Value i kind value)) = First file n i × (kind ≡ kind_at file i) × (value ≡ value_at file i) × (known kind ≡ true)
+Faulty file n None = (k : ℕ) → k < n → listed (kind_at file k) (value_at file k) ≡ true
+Faulty file n (Some (reason.Short bytes)) = ⊥
+Faulty file n (Some (reason.Long bytes)) = ⊥
+Faulty file n (Some (reason.Offset offset count)) = ⊥
+Faulty file n (Some (reason.Length bytes offset)) = ⊥
+Faulty file n (Some (reason.Variant v)) = ⊥
+Faulty file n (Some (reason.Flags f)) = ⊥
 
 -- one event more that is listed
 one_more : (file : List ℕ) (i : ℕ) → ((k : ℕ) → k < i → listed (kind_at file k) (value_at file k) ≡ true)
@@ -122,23 +123,23 @@ first_faulty file i (suc n) b =
     subst (λ (m : ℕ). Faulty file m (first_fault file (suc i) n)) m (first_faulty file (suc i) n (one_more file i b yes)))
     (λ no.
     let first : First file (i + suc n) i = record { inside = omega arith; unlisted = no; before = b } in
-    picked (Faulty file (i + suc n)) (known (kind_at file i)) (λ yes. (first, refl, refl, yes)) (λ no. (first, refl, no)))
+    picked (λ (r : Reason). Faulty file (i + suc n) (Some r)) (known (kind_at file i)) (λ yes. (first, refl, refl, yes)) (λ no. (first, refl, no)))
 
 pub events_faulty : (file : List ℕ) (n : ℕ) → Faulty file n (first_fault file 0 n)
 events_faulty file n =
     subst (λ (m : ℕ). Faulty file m (first_fault file 0 n)) (zero-add n) (first_faulty file 0 n (λ k h. absurd (omega arith)))
 
 -- so it is of refusal 9 exactly if not all are listed
-faulty_number : (file : List ℕ) (n : ℕ) (r : Reason) → Faulty file n r → refusal_of r ≡ pick (not (all_listed file n)) 9 0
-faulty_number file n (reason.Kind i kind) f = rw (unlisted_seen file n i f.0.inside f.0.unlisted)
-faulty_number file n (reason.Value i kind value) f = rw (unlisted_seen file n i f.0.inside f.0.unlisted)
-faulty_number file n reason.Neither f = rw (listed_all file n f)
-faulty_number file n (reason.Short bytes) f = absurd f
-faulty_number file n (reason.Long bytes) f = absurd f
-faulty_number file n (reason.Offset offset count) f = absurd f
-faulty_number file n (reason.Length bytes offset) f = absurd f
-faulty_number file n (reason.Variant v) f = absurd f
-faulty_number file n (reason.Flags v) f = absurd f
+faulty_number : (file : List ℕ) (n : ℕ) (r : Option Reason) → Faulty file n r → refusal_of r ≡ pick (not (all_listed file n)) 9 0
+faulty_number file n (Some (reason.Kind i kind)) f = rw (unlisted_seen file n i f.0.inside f.0.unlisted)
+faulty_number file n (Some (reason.Value i kind value)) f = rw (unlisted_seen file n i f.0.inside f.0.unlisted)
+faulty_number file n None f = rw (listed_all file n f)
+faulty_number file n (Some (reason.Short bytes)) f = absurd f
+faulty_number file n (Some (reason.Long bytes)) f = absurd f
+faulty_number file n (Some (reason.Offset offset count)) f = absurd f
+faulty_number file n (Some (reason.Length bytes offset)) f = absurd f
+faulty_number file n (Some (reason.Variant v)) f = absurd f
+faulty_number file n (Some (reason.Flags v)) f = absurd f
 
 pub events_number : (file : List ℕ) (n : ℕ) → refusal_of (first_fault file 0 n) ≡ pick (not (all_listed file n)) 9 0
 events_number file n = faulty_number file n (first_fault file 0 n) (events_faulty file n)

@@ -1,6 +1,7 @@
 -- The definitions on small cases, computed: numbers, the names of refusals, and for each test a file that fails it first, with the
 -- text that is told of it.
 use mathlib.Core.Path.{◌≡◌, refl}
+use Rattle.std.proofs.Common.{Some, None}
 use mathlib.Core.List.{List, [], ◌∷◌, ◌++◌}
 use Prim.Native.Nat.{ℕ}
 use lib.ListN.{replicate, length-replicate}
@@ -61,11 +62,11 @@ pub told_short : text (replicate 12 0) ≡ ascii "refused 8: broken capture: 12 
 unfolding words_of name_of reason_of grouped digits
 told_short = refl
 
-pub long_file : reason_of (replicate 65_540 0) ≡ reason.Long 65_540
+pub long_file : reason_of (replicate 65_540 0) ≡ Some (reason.Long 65_540)
 unfolding reason_of
 long_file = simp (length-replicate {A = ℕ} 65_540 0)
 
-pub told_long : because_of (reason.Long 65_540) ≡ ascii ": 65,540 bytes, at most 65,536"
+pub told_long : because_of (Some (reason.Long 65_540)) ≡ ascii ": 65,540 bytes, at most 65,536"
 unfolding grouped digits
 told_long = refl
 
@@ -93,11 +94,11 @@ pub told_value : text (behind_17 3 5) ≡ ascii "refused 9: bad event: event 17:
 unfolding words_of name_of reason_of bad_reason offset_of count_of listed grouped digits
 told_value = refl
 
-pub told_nothing : (reason_of (behind_17 4 1) ≡ reason.Neither) × (because_of reason.Neither ≡ [])
+pub told_nothing : (reason_of (behind_17 4 1) ≡ None) × (because_of None ≡ [])
 unfolding reason_of bad_reason offset_of count_of listed
 told_nothing = (refl, refl)
 
 -- with a rate
-pub rated_neither : reason_of (replicate 320 0 ++ trailer 0 0) ≡ reason.Neither
+pub rated_neither : reason_of (replicate 320 0 ++ trailer 0 0) ≡ None
 unfolding reason_of bad_reason offset_of count_of
 rated_neither = refl

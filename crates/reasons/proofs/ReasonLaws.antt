@@ -2,6 +2,7 @@
 -- the file is refused as neither. What it says of the file holds and each test before it passes, so it names the first fault.
 use mathlib.Core.Path.{◌≡◌, refl, sym, ap, subst}
 use mathlib.Core.Bool.{Bool, true, false, ◌||◌, not, true≢false}
+use Rattle.std.proofs.Common.{Option, Some, None}
 use mathlib.Core.List.{List}
 use mathlib.Core.Logic.{◌↔◌}
 use Prim.Native.Nat.{ℕ, ◌+◌, ◌*◌, ◌≤◌, ◌<◌}
@@ -22,7 +23,7 @@ use Rattle.reasons.specs.Reasons.{length_fits, first_fault, bad_reason, reason_o
 use Rattle.reasons.proofs.EventLaws.{picked, some_value, known_some, known_none, First, Faulty, events_faulty, events_number}
 
 -- ---- which refusal it is of
-refusal_picked : (t : Bool) (r s : Reason) → refusal_of (pick t r s) ≡ pick t (refusal_of r) (refusal_of s)
+refusal_picked : (t : Bool) (r s : Option Reason) → refusal_of (pick t r s) ≡ pick t (refusal_of r) (refusal_of s)
 refusal_picked true r s = refl
 refusal_picked false r s = refl
 
@@ -56,16 +57,16 @@ refusal_other c =
     (both Other (period_refused c) ((λ e. omega arith), (λ e. omega arith))
     (both Other (rate_refused c) ((λ e. omega arith), (λ e. omega arith)) ((λ e. omega arith), (λ e. omega arith))))))
 
-none_of : (r : Reason) → refusal_of r ≡ 0 → r ≡ reason.Neither
-none_of (reason.Short bytes) e = absurd (omega arith)
-none_of (reason.Long bytes) e = absurd (omega arith)
-none_of (reason.Offset offset count) e = absurd (omega arith)
-none_of (reason.Length bytes offset) e = absurd (omega arith)
-none_of (reason.Variant v) e = absurd (omega arith)
-none_of (reason.Flags f) e = absurd (omega arith)
-none_of (reason.Kind i kind) e = absurd (omega arith)
-none_of (reason.Value i kind value) e = absurd (omega arith)
-none_of reason.Neither e = refl
+none_of : (r : Option Reason) → refusal_of r ≡ 0 → r ≡ None
+none_of (Some (reason.Short bytes)) e = absurd (omega arith)
+none_of (Some (reason.Long bytes)) e = absurd (omega arith)
+none_of (Some (reason.Offset offset count)) e = absurd (omega arith)
+none_of (Some (reason.Length bytes offset)) e = absurd (omega arith)
+none_of (Some (reason.Variant v)) e = absurd (omega arith)
+none_of (Some (reason.Flags f)) e = absurd (omega arith)
+none_of (Some (reason.Kind i kind)) e = absurd (omega arith)
+none_of (Some (reason.Value i kind value)) e = absurd (omega arith)
+none_of None e = refl
 
 -- ---- the three, over the two tests
 is_eight : (s t : Bool) {n : ℕ} → n ≡ pick s 8 (pick t 9 0) → n ≡ 8 ↔ s ≡ true
@@ -98,14 +99,14 @@ module _ (file : List ℕ) where
   nine_exactly = is_nine (broken file) (bad_event file) (number_is file)
 
   -- neither, exactly if the file is refused as neither
-  pub neither_exactly : reason_of file ≡ reason.Neither ↔ (file_refused file ≡ 8 → ⊥) × (file_refused file ≡ 9 → ⊥)
+  pub neither_exactly : reason_of file ≡ None ↔ (file_refused file ≡ 8 → ⊥) × (file_refused file ≡ 9 → ⊥)
   unfolding file_refused
   neither_exactly =
       let i = is_neither (broken file) (bad_event file) (number_is file) (refusal_other (config_in file)) in
       ((λ e. i.0 (ap refusal_of e)), (λ h. none_of (reason_of file) (i.1 h)))
 
   -- a reason that is told is of the refusal that the file meets
-  pub same_refusal : (reason_of file ≡ reason.Neither → ⊥) → refusal_of (reason_of file) ≡ file_refused file
+  pub same_refusal : (reason_of file ≡ None → ⊥) → refusal_of (reason_of file) ≡ file_refused file
   unfolding file_refused
   same_refusal told =
       is_same (broken file) (bad_event file) (refusal (config_in file)) (number_is file) (λ z. told (none_of (reason_of file) z))
@@ -115,28 +116,28 @@ neither : (s t : Bool) → (s || t) ≡ false → (s ≡ false) × (t ≡ false)
 neither true t e = absurd (true≢false e)
 neither false t e = (refl, e)
 
-abbrev pub Holds : List ℕ → Reason → Type 0
-Holds file (reason.Short bytes) = (bytes ≡ length file) × (bytes < 320)
-Holds file (reason.Long bytes) = (bytes ≡ length file) × (65536 < bytes)
-Holds file (reason.Offset offset count) = (offset ≡ offset_of file) × (count ≡ count_of file) × (offset ≡ 10 * count → ⊥)
-Holds file (reason.Length bytes offset) =
+abbrev pub Holds : List ℕ → Option Reason → Type 0
+Holds file (Some (reason.Short bytes)) = (bytes ≡ length file) × (bytes < 320)
+Holds file (Some (reason.Long bytes)) = (bytes ≡ length file) × (65536 < bytes)
+Holds file (Some (reason.Offset offset count)) = (offset ≡ offset_of file) × (count ≡ count_of file) × (offset ≡ 10 * count → ⊥)
+Holds file (Some (reason.Length bytes offset)) =
     (bytes ≡ length file) × (offset ≡ offset_of file) × (bytes ≡ offset + 320 → ⊥) × (bytes ≡ offset + 328 → ⊥)
-Holds file (reason.Variant v) = (v ≡ variant_at file (offset_of file)) × (1 < v)
-Holds file (reason.Flags f) = (f ≡ flags_at file (offset_of file)) × (15 < f)
-Holds file (reason.Kind i kind) = Faulty file (count_of file) (reason.Kind i kind)
-Holds file (reason.Value i kind value) = Faulty file (count_of file) (reason.Value i kind value)
-Holds file reason.Neither = Faulty file (count_of file) reason.Neither
+Holds file (Some (reason.Variant v)) = (v ≡ variant_at file (offset_of file)) × (1 < v)
+Holds file (Some (reason.Flags f)) = (f ≡ flags_at file (offset_of file)) × (15 < f)
+Holds file (Some (reason.Kind i kind)) = Faulty file (count_of file) (Some (reason.Kind i kind))
+Holds file (Some (reason.Value i kind value)) = Faulty file (count_of file) (Some (reason.Value i kind value))
+Holds file None = Faulty file (count_of file) None
 
-events_hold : (file : List ℕ) (r : Reason) → Faulty file (count_of file) r → Holds file r
-events_hold file (reason.Short bytes) f = absurd f
-events_hold file (reason.Long bytes) f = absurd f
-events_hold file (reason.Offset offset count) f = absurd f
-events_hold file (reason.Length bytes offset) f = absurd f
-events_hold file (reason.Variant v) f = absurd f
-events_hold file (reason.Flags v) f = absurd f
-events_hold file (reason.Kind i kind) f = f
-events_hold file (reason.Value i kind value) f = f
-events_hold file reason.Neither f = f
+events_hold : (file : List ℕ) (r : Option Reason) → Faulty file (count_of file) r → Holds file r
+events_hold file (Some (reason.Short bytes)) f = absurd f
+events_hold file (Some (reason.Long bytes)) f = absurd f
+events_hold file (Some (reason.Offset offset count)) f = absurd f
+events_hold file (Some (reason.Length bytes offset)) f = absurd f
+events_hold file (Some (reason.Variant v)) f = absurd f
+events_hold file (Some (reason.Flags v)) f = absurd f
+events_hold file (Some (reason.Kind i kind)) f = f
+events_hold file (Some (reason.Value i kind value)) f = f
+events_hold file None f = f
 
 module _ (file : List ℕ) where
   bad_holds : Holds file (bad_reason file (offset_of file) (count_of file))
@@ -161,27 +162,27 @@ module _ (file : List ℕ) where
 abbrev Checked : List ℕ → Type 0
 Checked file = Whole file × (variant_at file (offset_of file) ≤ 1) × (flags_at file (offset_of file) ≤ 15)
 
-abbrev pub Passed : List ℕ → Reason → Type 0
-Passed file (reason.Short bytes) = Unit
-Passed file (reason.Long bytes) = 320 ≤ length file
-Passed file (reason.Offset offset count) = (320 ≤ length file) × (length file ≤ 65536)
-Passed file (reason.Length bytes offset) = (320 ≤ length file) × (length file ≤ 65536) × (offset_of file ≡ 10 * count_of file)
-Passed file (reason.Variant v) = Whole file
-Passed file (reason.Flags f) = Whole file × (variant_at file (offset_of file) ≤ 1)
-Passed file (reason.Kind i kind) = Checked file
-Passed file (reason.Value i kind value) = Checked file
-Passed file reason.Neither = Checked file
+abbrev pub Passed : List ℕ → Option Reason → Type 0
+Passed file (Some (reason.Short bytes)) = Unit
+Passed file (Some (reason.Long bytes)) = 320 ≤ length file
+Passed file (Some (reason.Offset offset count)) = (320 ≤ length file) × (length file ≤ 65536)
+Passed file (Some (reason.Length bytes offset)) = (320 ≤ length file) × (length file ≤ 65536) × (offset_of file ≡ 10 * count_of file)
+Passed file (Some (reason.Variant v)) = Whole file
+Passed file (Some (reason.Flags f)) = Whole file × (variant_at file (offset_of file) ≤ 1)
+Passed file (Some (reason.Kind i kind)) = Checked file
+Passed file (Some (reason.Value i kind value)) = Checked file
+Passed file None = Checked file
 
-events_pass : (file : List ℕ) (r : Reason) → Faulty file (count_of file) r → Checked file → Passed file r
-events_pass file (reason.Short bytes) f p = absurd f
-events_pass file (reason.Long bytes) f p = absurd f
-events_pass file (reason.Offset offset count) f p = absurd f
-events_pass file (reason.Length bytes offset) f p = absurd f
-events_pass file (reason.Variant v) f p = absurd f
-events_pass file (reason.Flags v) f p = absurd f
-events_pass file (reason.Kind i kind) f p = p
-events_pass file (reason.Value i kind value) f p = p
-events_pass file reason.Neither f p = p
+events_pass : (file : List ℕ) (r : Option Reason) → Faulty file (count_of file) r → Checked file → Passed file r
+events_pass file (Some (reason.Short bytes)) f p = absurd f
+events_pass file (Some (reason.Long bytes)) f p = absurd f
+events_pass file (Some (reason.Offset offset count)) f p = absurd f
+events_pass file (Some (reason.Length bytes offset)) f p = absurd f
+events_pass file (Some (reason.Variant v)) f p = absurd f
+events_pass file (Some (reason.Flags v)) f p = absurd f
+events_pass file (Some (reason.Kind i kind)) f p = p
+events_pass file (Some (reason.Value i kind value)) f p = p
+events_pass file None f p = p
 
 module _ (file : List ℕ) where
   bad_passed : Whole file → Passed file (bad_reason file (offset_of file) (count_of file))
@@ -208,14 +209,14 @@ module _ (file : List ℕ) where
 
 -- ---- the event named is not listed, and every event before it is: for its kind no value is listed, or another one is
 module _ (file : List ℕ) where
-  pub kind_first : (i kind : ℕ) → reason_of file ≡ reason.Kind i kind
+  pub kind_first : (i kind : ℕ) → reason_of file ≡ Some (reason.Kind i kind)
       → First file (count_of file) i × (kind ≡ kind_at file i) × ((value : ℕ) → listed kind value ≡ false)
   kind_first i kind e =
-      let h : Holds file (reason.Kind i kind) = subst (Holds file) e (holds file) in
+      let h : Holds file (Some (reason.Kind i kind)) = subst (Holds file) e (holds file) in
       (h.0, h.1, λ value. known_none kind value h.2)
 
-  pub value_first : (i kind value : ℕ) → reason_of file ≡ reason.Value i kind value
+  pub value_first : (i kind value : ℕ) → reason_of file ≡ Some (reason.Value i kind value)
       → First file (count_of file) i × (kind ≡ kind_at file i) × (value ≡ value_at file i) × (listed kind (some_value kind) ≡ true)
   value_first i kind value e =
-      let h : Holds file (reason.Value i kind value) = subst (Holds file) e (holds file) in
+      let h : Holds file (Some (reason.Value i kind value)) = subst (Holds file) e (holds file) in
       (h.0, h.1, h.2, known_some kind h.3)

@@ -1,5 +1,5 @@
 -- A refusal in words: its number and name, and why a capture file meets it.
-use Rattle.std.specs.Prelude.{List, [], ◌∷◌, ◌++◌, ℕ, ◌+◌, ◌*◌, get_or}
+use Rattle.std.specs.Prelude.{Option, Some, None, List, [], ◌∷◌, ◌++◌, ℕ, ◌+◌, ◌*◌, get_or}
 use Rattle.text.specs.Text.{ascii, digits}
 use Rattle.reasons.specs.declared.causes.Reason.{Reason}
 use Rattle.reasons.specs.declared.causes.Reason.TheVariants as reason
@@ -52,13 +52,13 @@ abbrev pub config_length : ℕ → List ℕ
 config_length bytes = ascii ": " ++ grouped bytes ++ ascii " bytes, a configuration has 312"
 
 -- why, behind the words of the refusal
-abbrev pub because_of : Reason → List ℕ
-because_of (reason.Short bytes) = ascii ": " ++ grouped bytes ++ ascii " bytes, at least 320"
-because_of (reason.Long bytes) = ascii ": " ++ grouped bytes ++ ascii " bytes, at most 65,536"
-because_of (reason.Offset offset count) = offset_words offset count
-because_of (reason.Length bytes offset) = length_words bytes offset
-because_of (reason.Variant v) = ascii ": variant " ++ grouped v ++ ascii ", at most 1"
-because_of (reason.Flags f) = ascii ": flags " ++ grouped f ++ ascii ", at most 15"
-because_of (reason.Kind event kind) = kind_words event kind
-because_of (reason.Value event kind value) = value_words event kind value
-because_of reason.Neither = []
+abbrev pub because_of : Option Reason → List ℕ
+because_of (Some (reason.Short bytes)) = ascii ": " ++ grouped bytes ++ ascii " bytes, at least 320"
+because_of (Some (reason.Long bytes)) = ascii ": " ++ grouped bytes ++ ascii " bytes, at most 65,536"
+because_of (Some (reason.Offset offset count)) = offset_words offset count
+because_of (Some (reason.Length bytes offset)) = length_words bytes offset
+because_of (Some (reason.Variant v)) = ascii ": variant " ++ grouped v ++ ascii ", at most 1"
+because_of (Some (reason.Flags f)) = ascii ": flags " ++ grouped f ++ ascii ", at most 15"
+because_of (Some (reason.Kind event kind)) = kind_words event kind
+because_of (Some (reason.Value event kind value)) = value_words event kind value
+because_of None = []

@@ -14,6 +14,4 @@ pub enum Reason {
     // The first event that is not listed, counted from 0: for its kind, or for its value.
     Kind { event: u32, kind: u8 },
     Value { event: u32, kind: u8, value: u8 },
-    // The file meets neither.
-    Neither,
 }

@@ -14,10 +14,7 @@ const VALUE: usize = 9;
 fn known(kind: u8) -> bool
     ensures { result ≡ rule.known kind }
 {
-    if kind < COMMAND {
-        return false;
-    }
-    kind <= VCOM_RULE
+    COMMAND <= kind && kind <= VCOM_RULE
 }
 
 // What is wrong with an event that is not listed.
@@ -31,18 +28,16 @@ fn fault(event: u32, kind: u8, value: u8) -> Reason
 }
 
 // The first of the file's events that is not listed.
-pub(crate) fn first_fault(file: &[u8], count: u32) -> Reason
+pub(crate) fn first_fault(file: &[u8], count: u32) -> Option<Reason>
     ensures { result ≡ rule.first_fault file.now 0 count }
 {
-    let mut i: u32 = 0;
-    while i < count {
+    for i in 0..count {
         let at = EVENT_BYTES * i as usize;
         let kind = byte(file, at, KIND);
         let value = byte(file, at, VALUE);
         if !listed(kind, value) {
-            return fault(i, kind, value);
+            return Some(fault(i, kind, value));
         }
-        i += 1;
     }
-    Reason::Neither
+    None
 }

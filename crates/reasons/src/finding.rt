@@ -27,6 +27,7 @@ const LAST_VARIANT: u8 = 1;
 const ALL_FLAGS: u8 = 15;
 
 // The number of four bytes from a place on.
+#[tactic(auto, using(crate::proofs::WordLaws::four_bytes))]
 fn word(file: &[u8], at: usize) -> u32
     ensures { result ≡ little file.now at 4 }
 {
@@ -38,23 +39,24 @@ fn word(file: &[u8], at: usize) -> u32
 }
 
 // 9, of a file that is not broken: the configuration's place, and how many events there are.
-fn bad(file: &[u8], offset: u32, count: u32) -> Reason
+#[tactic(auto, unfolding(crate::specs::Reasons::bad_reason))]
+fn bad(file: &[u8], offset: u32, count: u32) -> Option<Reason>
     ensures { result ≡ rule.bad_reason file.now offset count }
 {
     let at = offset as usize;
     let variant = byte(file, at, 0);
     if LAST_VARIANT < variant {
-        return Reason::Variant(variant);
+        return Some(Reason::Variant(variant));
     }
     let flags = byte(file, at, 1);
     if ALL_FLAGS < flags {
-        return Reason::Flags(flags);
+        return Some(Reason::Flags(flags));
     }
     first_fault(file, count)
 }
 
 // The first test of 9 that a configuration by itself fails.
-pub fn config_reason(config: &[u8]) -> Reason
+pub fn config_reason(config: &[u8]) -> Option<Reason>
     ensures { result ≡ rule.bad_reason config.now 0 0 }
 {
     bad(config, 0, 0)
@@ -64,30 +66,28 @@ pub fn config_reason(config: &[u8]) -> Reason
 fn length_fits(bytes: u64, offset: u32) -> bool
     ensures { result ≡ rule.length_fits bytes offset }
 {
-    if bytes == offset as u64 + TAIL {
-        return true;
-    }
-    bytes == offset as u64 + RATED_TAIL
+    bytes == offset as u64 + TAIL || bytes == offset as u64 + RATED_TAIL
 }
 
 // The first test of 8 and of 9 that fails.
-pub fn reason(file: &[u8]) -> Reason
+#[tactic(auto, using(crate::proofs::WordLaws::is_offset, crate::proofs::WordLaws::is_count), unfolding(crate::specs::Reasons::reason_of))]
+pub fn reason(file: &[u8]) -> Option<Reason>
     ensures { result ≡ rule.reason_of file.now }
 {
     let bytes = file.len() as u64;
     if bytes < TAIL {
-        return Reason::Short(bytes);
+        return Some(Reason::Short(bytes));
     }
     if MOST_BYTES < bytes {
-        return Reason::Long(bytes);
+        return Some(Reason::Long(bytes));
     }
     let offset = word(file, file.len() - OFFSET_BACK);
     let count = word(file, file.len() - COUNT_BACK);
     if offset as u64 != EVENT * count as u64 {
-        return Reason::Offset { offset, count };
+        return Some(Reason::Offset { offset, count });
     }
     if !length_fits(bytes, offset) {
-        return Reason::Length { bytes, offset };
+        return Some(Reason::Length { bytes, offset });
     }
     bad(file, offset, count)
 }

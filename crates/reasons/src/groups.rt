@@ -1,30 +1,32 @@
 // Numbers with a comma between groups of three digits.
-ghost use Rattle.std.specs.Prelude.{◌∷◌, ◌<◌};
-ghost use Rattle.text.specs.Text.{Puts};
+ghost use Rattle.std.specs.Prelude.{◌≡◌, ◌∷◌, ◌<◌};
+ghost use Rattle.text.specs.Text.{put};
 ghost use Rattle.reasons.specs.Groups as rule;
 
-use text::{byte, decimal};
+use text::Text;
 
 const GROUP: u64 = 1_000;
 
 // A comma and three digits.
-fn group(text: &mut [u8], held: usize, x: u64) -> usize
+fn group(text: &mut Text<'_>, x: u64)
     requires { x < 1_000 }
-    ensures { Puts (44 ∷ rule.three x) held result text.old text.new }
+    ensures { text.new ≡ put (44 ∷ rule.three x) text.old }
 {
-    let comma = byte(text, held, b',');
-    let hundreds = byte(text, comma, 48 + (x / 100) as u8);
-    let tens = byte(text, hundreds, 48 + (x / 10 % 10) as u8);
-    byte(text, tens, 48 + (x % 10) as u8)
+    text.byte(b',');
+    text.byte(b'0' + (x / 100) as u8);
+    text.byte(b'0' + (x / 10 % 10) as u8);
+    text.byte(b'0' + (x % 10) as u8);
 }
 
 // A number in decimal, `65,536`.
-pub fn grouped(text: &mut [u8], held: usize, x: u64) -> usize
-    ensures { Puts (rule.grouped x) held result text.old text.new }
+#[tactic(auto, using(text::proofs::Filling::puts, crate::proofs::GroupLaws::grouped_few, crate::proofs::GroupLaws::grouped_more))]
+pub fn grouped(text: &mut Text<'_>, x: u64)
+    ensures { text.new ≡ put (rule.grouped x) text.old }
 {
     if x < GROUP {
-        return decimal(text, held, x);
+        text.decimal(x);
+    } else {
+        grouped(text, x / GROUP);
+        group(text, x % GROUP);
     }
-    let n = grouped(text, held, x / GROUP);
-    group(text, n, x % GROUP)
 }

@@ -1,107 +1,109 @@
 // A refusal in words: `refused 8: broken capture`, and why, `: 12 bytes, at least 320`. No newline.
-ghost use Rattle.std.specs.Prelude.{◌++◌};
-ghost use Rattle.text.specs.Text.{Puts};
+ghost use Rattle.std.specs.Prelude.{◌≡◌, ◌++◌};
+ghost use Rattle.text.specs.Text.{put};
 ghost use Rattle.reasons.specs.Groups.{grouped};
 ghost use Rattle.reasons.specs.Wording as rule;
 
 use crate::causes::Reason;
 use crate::finding::{EVENT, RATED_TAIL, TAIL};
 use crate::groups;
-use text::{decimal, put};
+use text::Text;
 
-// What a refusal is called, behind a colon.
-fn name(text: &mut [u8], held: usize, number: u8) -> usize
-    ensures { Puts (rule.name_of number) held result text.old text.new }
+// What a refusal is called, behind a colon. The number is the file's or the library's, so it may be any.
+#[tactic(auto, using(text::proofs::Filling::puts, crate::proofs::NameLaws::unnamed), unfolding(crate::specs::Wording::name_of))]
+fn name(text: &mut Text<'_>, number: u8)
+    ensures { text.new ≡ put (rule.name_of number) text.old }
 {
     match number {
-        1 => put(text, held, b": empty panel"),
-        2 => put(text, held, b": oversized panel"),
-        3 => put(text, held, b": swing"),
-        4 => put(text, held, b": frame period"),
-        5 => put(text, held, b": buffer length"),
-        6 => put(text, held, b": foreign record"),
-        7 => put(text, held, b": foreign contents"),
-        8 => put(text, held, b": broken capture"),
-        9 => put(text, held, b": bad event"),
-        10 => put(text, held, b": too many pixels"),
-        11 => put(text, held, b": malformed dump"),
-        12 => put(text, held, b": signals"),
-        13 => put(text, held, b": rate out of range"),
-        _ => put(text, held, b""),
+        1 => text.put(b": empty panel"),
+        2 => text.put(b": oversized panel"),
+        3 => text.put(b": swing"),
+        4 => text.put(b": frame period"),
+        5 => text.put(b": buffer length"),
+        6 => text.put(b": foreign record"),
+        7 => text.put(b": foreign contents"),
+        8 => text.put(b": broken capture"),
+        9 => text.put(b": bad event"),
+        10 => text.put(b": too many pixels"),
+        11 => text.put(b": malformed dump"),
+        12 => text.put(b": signals"),
+        13 => text.put(b": rate out of range"),
+        _ => {}
     }
 }
 
 // A refusal, by its number.
-pub fn words(text: &mut [u8], held: usize, number: u8) -> usize
-    ensures { Puts (rule.words_of number) held result text.old text.new }
+#[tactic(auto, using(text::proofs::Filling::puts), unfolding(crate::specs::Wording::words_of))]
+pub fn words(text: &mut Text<'_>, number: u8)
+    ensures { text.new ≡ put (rule.words_of number) text.old }
 {
-    let head = put(text, held, b"refused ");
-    let n = decimal(text, head, number as u64);
-    name(text, n, number)
+    text.put(b"refused ");
+    text.decimal(number as u64);
+    name(text, number);
 }
 
 // A number between two texts.
-fn between(text: &mut [u8], held: usize, before: &[u8], x: u64, behind: &[u8]) -> usize
-    ensures { Puts (before.now ++ grouped x ++ behind.now) held result text.old text.new }
+fn between(text: &mut Text<'_>, before: &[u8], x: u64, behind: &[u8])
+    ensures { text.new ≡ put (before.now ++ grouped x ++ behind.now) text.old }
 {
-    let head = put(text, held, before);
-    let n = groups::grouped(text, head, x);
-    put(text, n, behind)
+    text.put(before);
+    groups::grouped(text, x);
+    text.put(behind);
 }
 
-fn offset_words(text: &mut [u8], held: usize, offset: u32, count: u32) -> usize
-    ensures { Puts (rule.offset_words offset count) held result text.old text.new }
+fn offset_words(text: &mut Text<'_>, offset: u32, count: u32)
+    ensures { text.new ≡ put (rule.offset_words offset count) text.old }
 {
-    let of = between(text, held, b": offset ", offset as u64, b" for ");
-    let n = groups::grouped(text, of, count as u64);
-    let not = put(text, n, b" events, not ");
-    groups::grouped(text, not, EVENT * count as u64)
+    between(text, b": offset ", offset as u64, b" for ");
+    groups::grouped(text, count as u64);
+    text.put(b" events, not ");
+    groups::grouped(text, EVENT * count as u64);
 }
 
-fn length_words(text: &mut [u8], held: usize, bytes: u64, offset: u32) -> usize
-    ensures { Puts (rule.length_words bytes offset) held result text.old text.new }
+fn length_words(text: &mut Text<'_>, bytes: u64, offset: u32)
+    ensures { text.new ≡ put (rule.length_words bytes offset) text.old }
 {
-    let n = between(text, held, b": ", bytes, b" bytes, not ");
-    let plain = groups::grouped(text, n, offset as u64 + TAIL);
-    let or = put(text, plain, b" or ");
-    groups::grouped(text, or, offset as u64 + RATED_TAIL)
+    between(text, b": ", bytes, b" bytes, not ");
+    groups::grouped(text, offset as u64 + TAIL);
+    text.put(b" or ");
+    groups::grouped(text, offset as u64 + RATED_TAIL);
 }
 
-fn kind_words(text: &mut [u8], held: usize, event: u32, kind: u8) -> usize
-    ensures { Puts (rule.kind_words event kind) held result text.old text.new }
+fn kind_words(text: &mut Text<'_>, event: u32, kind: u8)
+    ensures { text.new ≡ put (rule.kind_words event kind) text.old }
 {
-    let n = between(text, held, b": event ", event as u64, b": kind ");
-    groups::grouped(text, n, kind as u64)
+    between(text, b": event ", event as u64, b": kind ");
+    groups::grouped(text, kind as u64);
 }
 
-fn value_words(text: &mut [u8], held: usize, event: u32, kind: u8, value: u8) -> usize
-    ensures { Puts (rule.value_words event kind value) held result text.old text.new }
+fn value_words(text: &mut Text<'_>, event: u32, kind: u8, value: u8)
+    ensures { text.new ≡ put (rule.value_words event kind value) text.old }
 {
-    let n = kind_words(text, held, event, kind);
-    let behind = put(text, n, b", value ");
-    groups::grouped(text, behind, value as u64)
+    kind_words(text, event, kind);
+    text.put(b", value ");
+    groups::grouped(text, value as u64);
 }
 
 // Why a configuration of so many bytes is none, to stand behind `words`.
-pub fn config_length(text: &mut [u8], held: usize, bytes: u64) -> usize
-    ensures { Puts (rule.config_length bytes) held result text.old text.new }
+pub fn config_length(text: &mut Text<'_>, bytes: u64)
+    ensures { text.new ≡ put (rule.config_length bytes) text.old }
 {
-    between(text, held, b": ", bytes, b" bytes, a configuration has 312")
+    between(text, b": ", bytes, b" bytes, a configuration has 312");
 }
 
-// Why a file is refused, to stand behind `words`.
-pub fn because(text: &mut [u8], held: usize, r: Reason) -> usize
-    ensures { Puts (rule.because_of r) held result text.old text.new }
+// Why a file is refused, if it is for 8 or 9, to stand behind `words`.
+pub fn because(text: &mut Text<'_>, r: Option<Reason>)
+    ensures { text.new ≡ put (rule.because_of r) text.old }
 {
     match r {
-        Reason::Short(bytes) => between(text, held, b": ", bytes, b" bytes, at least 320"),
-        Reason::Long(bytes) => between(text, held, b": ", bytes, b" bytes, at most 65,536"),
-        Reason::Offset { offset, count } => offset_words(text, held, offset, count),
-        Reason::Length { bytes, offset } => length_words(text, held, bytes, offset),
-        Reason::Variant(v) => between(text, held, b": variant ", v as u64, b", at most 1"),
-        Reason::Flags(f) => between(text, held, b": flags ", f as u64, b", at most 15"),
-        Reason::Kind { event, kind } => kind_words(text, held, event, kind),
-        Reason::Value { event, kind, value } => value_words(text, held, event, kind, value),
-        Reason::Neither => put(text, held, b""),
+        Some(Reason::Short(bytes)) => between(text, b": ", bytes, b" bytes, at least 320"),
+        Some(Reason::Long(bytes)) => between(text, b": ", bytes, b" bytes, at most 65,536"),
+        Some(Reason::Offset { offset, count }) => offset_words(text, offset, count),
+        Some(Reason::Length { bytes, offset }) => length_words(text, bytes, offset),
+        Some(Reason::Variant(v)) => between(text, b": variant ", v as u64, b", at most 1"),
+        Some(Reason::Flags(f)) => between(text, b": flags ", f as u64, b", at most 15"),
+        Some(Reason::Kind { event, kind }) => kind_words(text, event, kind),
+        Some(Reason::Value { event, kind, value }) => value_words(text, event, kind, value),
+        None => {}
     }
 }

@@ -2,7 +2,6 @@
 ghost use Rattle.std.specs.Prelude.{◌≡◌};
 ghost use Rattle.registers.specs.Bytes.{high_of, low_of, low_column, ten_bits, window_set, held_area, window_byte, byte_of};
 
-use crate::areas::held;
 use crate::{Area, LAST_COLUMN, LAST_ROW, Pair, Registers};
 use command::{CDI, GSST, PLL, PSR, PTL, PWR, TRES};
 
@@ -28,6 +27,7 @@ fn low_column(value: u16, byte: u8) -> u16
 }
 
 // `TRES` and `GSST`.
+#[tactic(auto, unfolding(crate::specs::Bytes::ten_bits))]
 pub fn ten_bits_pair(pair: Pair, index: u16, byte: u8) -> Pair
     ensures { result ≡ ten_bits index byte pair }
 {
@@ -51,18 +51,20 @@ pub fn ten_bits_pair(pair: Pair, index: u16, byte: u8) -> Pair
     }
 }
 
+#[tactic(auto, unfolding(crate::specs::Bytes::held_area))]
 fn held_area(area: Area) -> Area
     ensures { result ≡ held_area area }
 {
     Area {
-        x0: held(area.x0, LAST_COLUMN),
-        y0: held(area.y0, LAST_ROW),
-        x1: held(area.x1, LAST_COLUMN),
-        y1: held(area.y1, LAST_ROW),
+        x0: area.x0.min(LAST_COLUMN),
+        y0: area.y0.min(LAST_ROW),
+        x1: area.x1.min(LAST_COLUMN),
+        y1: area.y1.min(LAST_ROW),
     }
 }
 
 // The byte alone: `PT_SCAN`, the ninth, changes nothing that the glass shows.
+#[tactic(auto, unfolding(crate::specs::Bytes::window_set))]
 fn window_set(area: Area, index: u16, byte: u8) -> Area
     ensures { result ≡ window_set index byte area }
 {
@@ -91,6 +93,7 @@ pub fn window_byte(area: Area, index: u16, byte: u8) -> Area
 impl Registers {
     // What data byte number `index`, from 0, of a command does to the registers. The soft reset of 00
     // is the caller's.
+    #[tactic(auto, unfolding(crate::specs::Bytes::byte_of, crate::specs::Bytes::put_at))]
     pub fn with_byte(self, command: u8, index: u16, byte: u8) -> Registers
         ensures { result ≡ byte_of command index byte self }
     {
@@ -98,12 +101,12 @@ impl Registers {
         let mut r = self;
         match command {
             PSR => {
-                if i < 2 {
+                if i < r.psr.len() {
                     r.psr[i] = byte;
                 }
             }
             PWR => {
-                if i < 5 {
+                if i < r.power.len() {
                     r.power[i] = byte;
                 }
             }
@@ -113,7 +116,7 @@ impl Registers {
                 }
             }
             CDI => {
-                if i < 2 {
+                if i < r.cdi.len() {
                     r.cdi[i] = byte;
                 }
             }

@@ -1,64 +1,50 @@
 // Single bits of the registers (DS79).
-ghost use Rattle.std.specs.Prelude.{◌≡◌};
-ghost use Rattle.registers.specs.Flags.{bit_set, one_is_white, copies_new_to_old};
+ghost use Rattle.std.specs.Prelude.{◌≡◌, ◌<◌};
+ghost use Rattle.registers.specs.Flags.{bit_set, flag_bit, one_is_white, copies_new_to_old};
 
 use crate::Registers;
 use config::Variant;
 
-// `PSR`, first byte: the LUTs come from the registers.
-const PSR_REG: u8 = 1 << 5;
-// KW mode.
-const PSR_KW: u8 = 1 << 4;
-// Gates are scanned up.
-const PSR_UD: u8 = 1 << 3;
-// Sources are shifted right.
-const PSR_SHL: u8 = 1 << 2;
-// The booster is on.
-const PSR_SHD_N: u8 = 1 << 1;
-// No soft reset.
-const PSR_RST_N: u8 = 1 << 0;
+// Bit k of a byte is set.
+fn bit_set(byte: u8, k: u8) -> bool
+    requires { k < 8 }
+    ensures { result ≡ bit_set byte k }
+{
+    (byte >> k) % 2 == 1
+}
+
+// The bits of `PSR`, first byte, from the lowest.
+#[derive(Clone, Copy)]
+pub enum PsrFlag {
+    // No soft reset.
+    RstN,
+    // The booster is on.
+    ShdN,
+    // Sources are shifted right.
+    Shl,
+    // Gates are scanned up.
+    Ud,
+    // KW mode.
+    Kw,
+    // The LUTs come from the registers.
+    Reg,
+}
+
+impl PsrFlag {
+    // Whether the first byte of `PSR` has the bit.
+    pub fn is_set(self, psr: u8) -> bool
+        ensures { result ≡ bit_set psr (flag_bit self) }
+    {
+        bit_set(psr, self as u8)
+    }
+}
+
 // `CDI`, first byte: a bit of 1 is white, by DS79's layout and by the UC8279d's.
-const CDI_DDX: u8 = 1 << 0;
+const CDI_DDX: u8 = 0;
 
-const CDI_DDX_UC8279D: u8 = 1 << 4;
+const CDI_DDX_UC8279D: u8 = 4;
 // By DS79's layout: new is copied to old after a refresh.
-const CDI_N2OCP: u8 = 1 << 3;
-
-pub fn psr_reg(psr: u8) -> bool
-    ensures { result ≡ bit_set psr 5 }
-{
-    psr / PSR_REG % 2 == 1
-}
-
-pub fn psr_kw(psr: u8) -> bool
-    ensures { result ≡ bit_set psr 4 }
-{
-    psr / PSR_KW % 2 == 1
-}
-
-pub fn psr_ud(psr: u8) -> bool
-    ensures { result ≡ bit_set psr 3 }
-{
-    psr / PSR_UD % 2 == 1
-}
-
-pub fn psr_shl(psr: u8) -> bool
-    ensures { result ≡ bit_set psr 2 }
-{
-    psr / PSR_SHL % 2 == 1
-}
-
-pub fn psr_shd_n(psr: u8) -> bool
-    ensures { result ≡ bit_set psr 1 }
-{
-    psr / PSR_SHD_N % 2 == 1
-}
-
-pub fn psr_rst_n(psr: u8) -> bool
-    ensures { result ≡ bit_set psr 0 }
-{
-    psr / PSR_RST_N % 2 == 1
-}
+const CDI_N2OCP: u8 = 3;
 
 impl Registers {
     // Whether a bit of 1 is white.
@@ -67,8 +53,8 @@ impl Registers {
     {
         let cdi = self.cdi[0];
         match variant {
-            Variant::Uc8253 => cdi / CDI_DDX % 2 == 1,
-            Variant::Uc8279d => cdi / CDI_DDX_UC8279D % 2 == 1,
+            Variant::Uc8253 => bit_set(cdi, CDI_DDX),
+            Variant::Uc8279d => bit_set(cdi, CDI_DDX_UC8279D),
         }
     }
 
@@ -78,7 +64,7 @@ impl Registers {
     {
         let cdi = self.cdi[0];
         match variant {
-            Variant::Uc8253 => cdi / CDI_N2OCP % 2 == 1,
+            Variant::Uc8253 => bit_set(cdi, CDI_N2OCP),
             Variant::Uc8279d => false,
         }
     }

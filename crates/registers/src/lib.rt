@@ -13,7 +13,7 @@ ghost use Rattle.registers.specs.Reset.{reset_cdi, reset_of};
 
 pub use bytes::{ten_bits_pair, window_byte};
 use config::{RAM_GATES, RAM_SOURCES, Variant};
-pub use flags::{psr_kw, psr_reg, psr_rst_n, psr_shd_n, psr_shl, psr_ud};
+pub use flags::PsrFlag;
 pub use luts::Luts;
 
 // The last column and the last row of the RAM.
@@ -32,19 +32,11 @@ pub struct Area {
 }
 
 impl Area {
+    #[tactic(auto, unfolding(crate::specs::Area::inside))]
     pub fn contains(self, x: u16, y: u16) -> bool
         ensures { result ≡ inside self x y }
     {
-        if x < self.x0 {
-            return false;
-        }
-        if self.x1 < x {
-            return false;
-        }
-        if y < self.y0 {
-            return false;
-        }
-        y <= self.y1
+        self.x0 <= x && x <= self.x1 && self.y0 <= y && y <= self.y1
     }
 }
 
@@ -111,23 +103,18 @@ impl Registers {
     }
 
     // What a soft reset, a reset by pin and power-on give.
+    #[tactic(auto, unfolding(crate::specs::Reset::reset_of))]
     pub fn reset(variant: Variant) -> Registers
         ensures { result ≡ reset_of variant }
     {
-        let psr = Registers::PSR;
-        let power = Registers::POWER;
-        let cdi = Registers::reset_cdi(variant);
-        let resolution = Registers::RESOLUTION;
-        let start = Registers::START;
-        let window = Registers::WINDOW;
         Registers {
-            psr,
-            power,
+            psr: Registers::PSR,
+            power: Registers::POWER,
             pll: Registers::PLL,
-            cdi,
-            resolution,
-            start,
-            window,
+            cdi: Registers::reset_cdi(variant),
+            resolution: Registers::RESOLUTION,
+            start: Registers::START,
+            window: Registers::WINDOW,
             partial: false,
         }
     }

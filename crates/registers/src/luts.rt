@@ -16,51 +16,40 @@ pub struct Luts {
 }
 
 // Of a table's bytes the first 42 are kept.
+#[tactic(auto, unfolding(crate::specs::Luts::kept_byte))]
 fn kept(lut: [u8; LUT_BYTES], i: usize, byte: u8) -> [u8; LUT_BYTES]
     ensures { result ≡ kept_byte i byte lut }
 {
     let mut r = lut;
     if i < LUT_BYTES {
         r[i] = byte;
-        return r;
     }
-    lut
+    r
 }
 
-// The proofs of `of` and `bytes` are walks by hand, by the laws of the crate `nested`; the rest goes
-// by these two.
 impl Luts {
-    fn of(bytes: [[u8; LUT_BYTES]; TABLES]) -> Luts
-        ensures { result ≡ record { bytes = bytes } }
-    {
-        Luts { bytes }
-    }
-
-    // The bytes alone.
-    pub fn bytes(self) -> [[u8; LUT_BYTES]; TABLES]
-        ensures { result ≡ self.bytes }
-    {
-        self.bytes
-    }
-
     // A reset clears every LUT.
+    #[tactic(auto, unfolding(crate::specs::Luts::reset_luts))]
     pub fn reset() -> Luts
         ensures { result ≡ reset_luts }
     {
-        Luts::of([[0; LUT_BYTES]; TABLES])
+        Luts {
+            bytes: [[0; LUT_BYTES]; TABLES],
+        }
     }
 
     // What data byte number `index`, from 0, of a command does to the LUTs: nothing unless the command
     // is one of 20 to 24.
+    #[tactic(auto, unfolding(crate::specs::Luts::lut_byte_of))]
     pub fn with_byte(self, command: u8, index: u16, byte: u8) -> Luts
         ensures { result ≡ lut_byte_of command index byte self }
     {
         match command {
             LUTC..=LUTKK => {
                 let k = (command - LUTC) as usize;
-                let mut b = self.bytes();
-                b[k] = kept(b[k], index as usize, byte);
-                Luts::of(b)
+                let mut luts = self;
+                luts.bytes[k] = kept(self.bytes[k], index as usize, byte);
+                luts
             }
             _ => self,
         }

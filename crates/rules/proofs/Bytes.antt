@@ -1,16 +1,15 @@
--- What a read gives at an index: the bytes of each command that gives some, and none past their end.
+-- What a read gives at an index: the bytes of each command that gives some, and none past their end. It is the library's element at
+-- an index of a slice.
+use Rattle.std.proofs.Common.{None}
 use mathlib.Core.Path.{◌≡◌, refl}
 use mathlib.Core.List.{List, [], ◌∷◌}
-use Prim.Native.Nat.{ℕ, zero, suc, ◌≤◌, ◌<◌}
+use Prim.Native.Nat.{ℕ, zero, suc, ◌≤◌}
 use native.Mathlib.Nat.{not-suc-le-zero, le_of_suc-le-suc}
-use native.Mathlib.Omega.{arith}
 use lib.ListN.{length}
 use borrow.Author.Tests.{ne_eqb}
+use Rattle.std.specs.List.{slice_get}
 use Rattle.base.specs.Pick.{pick}
-use Rattle.base.proofs.Sorting.{in_range}
 use Rattle.controller.specs.declared.Uc8253.{Uc8253}
-use Rattle.controller.specs.declared.reads.Read.{Read}
-use Rattle.controller.specs.declared.reads.Read.TheVariants.{Byte, Nothing}
 use Rattle.controller.specs.Reading.{flags_of, bytes_of, byte_at}
 
 -- the five bytes of 70
@@ -37,29 +36,12 @@ pub of_others : (c : ℕ) (p : Uc8253) → (c ≡ 0x70 → ⊥) → (c ≡ 0x71 
 unfolding bytes_of
 of_others c p h1 h2 h3 h4 = simp (ne_eqb _ _ h1, ne_eqb _ _ h2, ne_eqb _ _ h3, ne_eqb _ _ h4)
 
--- an index that is none of the first
-pub one : (i : ℕ) → (i ≡ 0 → ⊥) → 1 ≤ i
-one i h = omega (arith, h)
-
-pub two : (i : ℕ) → (i ≡ 0 → ⊥) → (i ≡ 1 → ⊥) → 2 ≤ i
-two i h k = omega (arith, h, k)
-
-pub three : (i : ℕ) → (i ≡ 0 → ⊥) → (i ≡ 1 → ⊥) → (i ≡ 2 → ⊥) → 3 ≤ i
-three i h k l = omega (arith, h, k, l)
-
--- a byte at a known index of known bytes
-pub at : {i : ℕ} {l : List ℕ} (j : ℕ) (m : List ℕ) {r : Read} → l ≡ m → i ≡ j → r ≡ byte_at m j → r ≡ byte_at l i
-at j m e f g = rw (e, f) g
-
-pub past : (l : List ℕ) (i : ℕ) → length l ≤ i → Nothing ≡ byte_at l i
+pub past : (l : List ℕ) (i : ℕ) → length l ≤ i → None ≡ byte_at l i
 past [] i h = refl
 past (b ∷ l) zero h = absurd (not-suc-le-zero h)
 past (b ∷ l) (suc i) h = past l i (le_of_suc-le-suc h)
 
--- no byte at an index past the end of known bytes
-pub none : {l : List ℕ} (i : ℕ) (m : List ℕ) → l ≡ m → length m ≤ i → Nothing ≡ byte_at l i
-none i m e h = rw e (past m i h)
-
--- the last two of 70
-pub filler : {l : List ℕ} (i : ℕ) → l ≡ revision → 3 ≤ i → i < 5 → Byte 0xFF ≡ byte_at l i
-filler i e h k = rw e (in_range (λ j. Byte 0xFF ≡ byte_at revision j) [] 3 2 i (refl, (refl, tt)) refl h k)
+pub same_byte : (l : List ℕ) (i : ℕ) → byte_at l i ≡ slice_get l i
+same_byte [] i = refl
+same_byte (b ∷ l) zero = refl
+same_byte (b ∷ l) (suc i) = same_byte l i

@@ -9,27 +9,26 @@ ghost use Rattle.controller.specs.Glass.{driven_at};
 ghost use Rattle.controller.specs.Counting.{own};
 
 use crate::refused::ends_refresh;
-use base::{greatest, saturating_add, saturating_sub};
 use clock::{cycles, nanoseconds};
-use controller::{Current, Drive, Note, Notes, Operation, Stage, Uc8253, Work};
+use controller::{Current, Drive, Notes, Operation, Stage, Uc8253, Work};
+use diagnostic::DiagnosticKind;
 use diagnostic_log::{Log, counted, store};
 use waveform::whole_frames;
 
-fn log_noted(log: Log, note: Note) -> Log
+fn log_noted(log: Log, note: Option<DiagnosticKind>) -> Log
     ensures { result ≡ log_noted note log }
 {
     match note {
-        Note::Quiet => log,
-        Note::Told(_) => counted(log),
+        None => log,
+        Some(_) => counted(log),
     }
 }
 
-fn row_noted(log: Log, clock: u64, note: Note, rows: &mut [u64])
+fn row_noted(log: Log, clock: u64, note: Option<DiagnosticKind>, rows: &mut [u64])
     ensures { rows.new ≡ row_noted note clock log rows.old }
 {
-    match note {
-        Note::Quiet => {}
-        Note::Told(kind) => store(log, rows, clock, kind),
+    if let Some(kind) = note {
+        store(log, rows, clock, kind);
     }
 }
 
@@ -37,59 +36,56 @@ fn row_noted(log: Log, clock: u64, note: Note, rows: &mut [u64])
 pub fn logged(p: Uc8253, notes: Notes) -> Uc8253
     ensures { result ≡ with_log (log_told notes p.log) p }
 {
-    let log = p.log;
-    let first = notes.first;
-    let second = notes.second;
-    let mut q = p;
-    q.log = log_noted(log_noted(log, first), second);
-    q
+    let first = log_noted(p.log, notes.first);
+    Uc8253 {
+        log: log_noted(first, notes.second),
+        ..p
+    }
 }
 
 // The rows store what a call tells, dated by the clock.
 pub fn store_notes(log: Log, clock: u64, notes: Notes, rows: &mut [u64])
     ensures { rows.new ≡ rows_told notes clock log rows.old }
 {
-    let first = notes.first;
-    let second = notes.second;
-    row_noted(log, clock, first, rows);
-    row_noted(log_noted(log, first), clock, second, rows);
+    row_noted(log, clock, notes.first, rows);
+    row_noted(log_noted(log, notes.first), clock, notes.second, rows);
 }
 
 pub fn with_current(p: Uc8253, current: Current) -> Uc8253
     ensures { result ≡ with_current current p }
 {
-    let stage = Stage { current };
-    let mut q = p;
-    q.stage = stage;
-    q
+    Uc8253 {
+        stage: Stage { current },
+        ..p
+    }
 }
 
 // Nothing runs any more.
 pub fn rested(p: Uc8253) -> Uc8253
     ensures { result ≡ with_operation arrives.rest p }
 {
-    let operation = Operation {
-        work: Work::Nothing,
-        started: 0,
-        until: 0,
-    };
-    let mut q = p;
-    q.operation = operation;
-    q
+    Uc8253 {
+        operation: Operation {
+            work: Work::Nothing,
+            started: 0,
+            until: 0,
+        },
+        ..p
+    }
 }
 
 // An operation from the clock on, of so many nanoseconds.
 pub fn start(p: Uc8253, work: Work, ns: u64) -> Uc8253
     ensures { result ≡ arrives.starting own work ns p }
 {
-    let operation = Operation {
-        work,
-        started: p.now,
-        until: saturating_add(p.now, cycles(p.config.timing.rate, ns)),
-    };
-    let mut q = p;
-    q.operation = operation;
-    q
+    Uc8253 {
+        operation: Operation {
+            work,
+            started: p.now,
+            until: p.now.saturating_add(cycles(p.config.timing.rate, ns)),
+        },
+        ..p
+    }
 }
 
 // The whole frames that a refresh has run once the clock is at a time: those of the time since its
@@ -97,21 +93,22 @@ pub fn start(p: Uc8253, work: Work, ns: u64) -> Uc8253
 fn elapsed(p: Uc8253, at: u64) -> u64
     ensures { result ≡ refresh.elapsed own (with_now at p) }
 {
-    let run = saturating_sub(at, p.operation.started);
-    let ns = nanoseconds(p.config.timing.rate, run);
-    whole_frames(ns, p.waveform.frame_ns)
+    let run = at.saturating_sub(p.operation.started);
+    whole_frames(nanoseconds(p.config.timing.rate, run), p.waveform.frame_ns)
 }
 
 // What a call at a time, which may assert reset, does to the glass.
+#[tactic(auto, unfolding(controller::specs::Glass::driven_at))]
 pub fn drive_at(p: Uc8253, at: u64, asserted: bool) -> Drive
     ensures { result ≡ driven_at own asserted at p }
 {
-    if ends_refresh(p, at, asserted) {
-        let clock = greatest(p.now, at);
-        if p.operation.until <= clock {
-            return Drive::Whole;
-        }
-        return Drive::First(elapsed(p, clock));
+    if !ends_refresh(p, at, asserted) {
+        return Drive::Nothing;
     }
-    Drive::Nothing
+    let clock = p.now.max(at);
+    if p.operation.until <= clock {
+        Drive::Whole
+    } else {
+        Drive::First(elapsed(p, clock))
+    }
 }

@@ -4,53 +4,44 @@ ghost use Rattle.controller.specs.Command as rule;
 ghost use Rattle.controller.specs.Refresh.{refresh_note};
 
 use command::{FLG, LUTC, LUTKK, REV, VV, least_count};
-use controller::{Active, Current, Mode, Note, Operation, Power, Stage, Work};
+use controller::{Active, Current, Mode, Operation, Power, Stage, Work};
 use diagnostic::{BOOSTER, DiagnosticKind, KWR, OTP};
-use registers::{psr_kw, psr_reg, psr_shd_n};
+use registers::PsrFlag;
 
 // The bytes of a LUT that the model reads.
 const LUT_BYTES: u16 = 42;
 
 // The command under way ends: too few parameters are reported, else a LUT of another length than KW
 // mode reads, unless its extra bytes were reported already.
-fn closing(a: Active) -> Note
+#[tactic(auto, unfolding(controller::specs::Command::closing_note))]
+fn closing(a: Active) -> Option<DiagnosticKind>
     ensures { result ≡ rule.closing_note a }
 {
-    let kind = a.kind;
-    let least = least_count(kind);
+    let least = least_count(a.kind);
     if a.received < least {
-        return Note::Told(DiagnosticKind::MissingData {
+        return Some(DiagnosticKind::MissingData {
             command: a.command,
             expected: least,
             received: a.received,
         });
     }
-    let command = a.command;
-    match command {
-        LUTC..=LUTKK => {
-            if a.extra_reported {
-                return Note::Quiet;
-            }
-            if a.received != LUT_BYTES {
-                return Note::Told(DiagnosticKind::LutLength {
-                    command: a.command,
-                    bytes: a.received,
-                });
-            }
-            Note::Quiet
-        }
-        _ => Note::Quiet,
+    match a.command {
+        LUTC..=LUTKK if !a.extra_reported && a.received != LUT_BYTES => Some(
+            DiagnosticKind::LutLength {
+                command: a.command,
+                bytes: a.received,
+            },
+        ),
+        _ => None,
     }
 }
 
 // What is told as the command under way closes.
-pub fn close_note(stage: Stage) -> Note
+pub fn close_note(stage: Stage) -> Option<DiagnosticKind>
     ensures { result ≡ rule.close_note stage.current }
 {
-    let current = stage.current;
-    match current {
-        Current::Idle => Note::Quiet,
-        Current::Ignoring => Note::Quiet,
+    match stage.current {
+        Current::Idle | Current::Ignoring => None,
         Current::Active(a) => closing(a),
     }
 }
@@ -58,92 +49,61 @@ pub fn close_note(stage: Stage) -> Note
 fn in_reset(power: Power) -> bool
     ensures { result ≡ rule.in_reset power }
 {
-    match power {
-        Power::Running => false,
-        Power::Asleep => false,
-        Power::InReset => true,
-    }
+    matches!(power, Power::InReset)
 }
 
 fn asleep(power: Power) -> bool
     ensures { result ≡ rule.asleep power }
 {
-    match power {
-        Power::Running => false,
-        Power::Asleep => true,
-        Power::InReset => false,
-    }
+    matches!(power, Power::Asleep)
 }
 
 // A soft or a hardware reset runs.
 fn initialises(work: Work) -> bool
     ensures { result ≡ rule.initialises work }
 {
-    match work {
-        Work::Nothing => false,
-        Work::PowerOn => false,
-        Work::PowerOff => false,
-        Work::DeepSleep => false,
-        Work::SoftReset => true,
-        Work::HardwareReset => true,
-        Work::Refresh(_) => false,
-    }
+    matches!(work, Work::SoftReset | Work::HardwareReset)
 }
 
 fn busy(work: Work) -> bool
     ensures { result ≡ rule.busy work }
 {
-    match work {
-        Work::Nothing => false,
-        Work::PowerOn => true,
-        Work::PowerOff => true,
-        Work::DeepSleep => true,
-        Work::SoftReset => true,
-        Work::HardwareReset => true,
-        Work::Refresh(_) => true,
-    }
+    !matches!(work, Work::Nothing)
 }
 
 // Why a command is dropped, if it is.
-pub fn barred(mode: Mode, operation: Operation, command: u8) -> Note
+#[tactic(auto, unfolding(controller::specs::Command::barred_note))]
+pub fn barred(mode: Mode, operation: Operation, command: u8) -> Option<DiagnosticKind>
     ensures { result ≡ rule.barred_note mode.power operation.work command }
 {
-    let power = mode.power;
-    let work = operation.work;
-    if in_reset(power) {
-        return Note::Told(DiagnosticKind::WhileInReset { command });
+    if in_reset(mode.power) || initialises(operation.work) {
+        return Some(DiagnosticKind::WhileInReset { command });
     }
-    if initialises(work) {
-        return Note::Told(DiagnosticKind::WhileInReset { command });
+    if asleep(mode.power) {
+        return Some(DiagnosticKind::WhileAsleep { command });
     }
-    if asleep(power) {
-        return Note::Told(DiagnosticKind::WhileAsleep { command });
+    if busy(operation.work) && !matches!(command, REV | FLG | VV) {
+        return Some(DiagnosticKind::WhileBusy { command });
     }
-    if busy(work) {
-        match command {
-            REV | FLG | VV => Note::Quiet,
-            _ => Note::Told(DiagnosticKind::WhileBusy { command }),
-        }
-    } else {
-        Note::Quiet
-    }
+    None
 }
 
 // Why a refresh is refused, if it is, by the first byte of PSR and the supplies.
-pub fn refresh_note(psr: u8, powered: bool) -> Note
+#[tactic(auto, unfolding(controller::specs::Refresh::refresh_note))]
+pub fn refresh_note(psr: u8, powered: bool) -> Option<DiagnosticKind>
     ensures { result ≡ refresh_note psr powered }
 {
-    if psr_reg(psr) {
-        if psr_kw(psr) {
-            if psr_shd_n(psr) {
-                if powered {
-                    return Note::Quiet;
-                }
-                return Note::Told(DiagnosticKind::RefreshWithoutPower);
-            }
-            return Note::Told(DiagnosticKind::RefreshNotModelled { what: BOOSTER });
-        }
-        return Note::Told(DiagnosticKind::RefreshNotModelled { what: KWR });
+    if !PsrFlag::Reg.is_set(psr) {
+        return Some(DiagnosticKind::RefreshNotModelled { what: OTP });
     }
-    Note::Told(DiagnosticKind::RefreshNotModelled { what: OTP })
+    if !PsrFlag::Kw.is_set(psr) {
+        return Some(DiagnosticKind::RefreshNotModelled { what: KWR });
+    }
+    if !PsrFlag::ShdN.is_set(psr) {
+        return Some(DiagnosticKind::RefreshNotModelled { what: BOOSTER });
+    }
+    if !powered {
+        return Some(DiagnosticKind::RefreshWithoutPower);
+    }
+    None
 }

@@ -1,11 +1,11 @@
 // What turns a later call back: refusal 6, a part at a time, the lengths of 5, and whether the call
 // ends a refresh, for 7.
-ghost use Rattle.std.specs.Prelude.{◌≡◌, ◌*◌};
+ghost use Rattle.std.specs.Prelude.{◌≡◌};
 ghost use Rattle.controller.specs.TurnedBack as tests;
+ghost use Rattle.controller.specs.Lent.{held};
 
-use base::greatest;
 use config::Uc8253Config;
-use controller::{Current, Mode, Operation, Power, Stage, Uc8253, Work};
+use controller::{Current, Lent, Operation, Power, Stage, Uc8253, Work};
 use diagnostic_log::ROWS;
 use ram::PLANE;
 use registers::{Area, Pair, Registers};
@@ -23,133 +23,76 @@ const MOST_LEVEL: u16 = 15_000;
 
 const MOST_ROWS: u16 = 1_024;
 
+#[tactic(auto, unfolding(controller::specs::TurnedBack::bad_config))]
 fn bad_config(config: Uc8253Config) -> bool
     ensures { result ≡ tests.bad_config config }
 {
-    let v = config.validate();
-    !v.none()
+    config.validate().is_err()
 }
 
+#[tactic(auto, unfolding(controller::specs::TurnedBack::bad_area))]
 fn bad_area(a: Area) -> bool
     ensures { result ≡ tests.bad_area a }
 {
-    if LAST_COLUMN < a.x0 {
-        return true;
-    }
-    if LAST_ROW < a.y0 {
-        return true;
-    }
-    if LAST_COLUMN < a.x1 {
-        return true;
-    }
-    LAST_ROW < a.y1
+    LAST_COLUMN < a.x0 || LAST_ROW < a.y0 || LAST_COLUMN < a.x1 || LAST_ROW < a.y1
 }
 
+#[tactic(auto, unfolding(controller::specs::TurnedBack::bad_pair))]
 fn bad_pair(p: Pair) -> bool
     ensures { result ≡ tests.bad_pair p }
 {
-    if TEN_BITS < p.h {
-        return true;
-    }
-    TEN_BITS < p.v
+    TEN_BITS < p.h || TEN_BITS < p.v
 }
 
+#[tactic(auto, unfolding(controller::specs::TurnedBack::bad_registers))]
 fn bad_registers(r: Registers) -> bool
     ensures { result ≡ tests.bad_registers r }
 {
-    let window = r.window;
-    let resolution = r.resolution;
-    let start = r.start;
-    if bad_area(window) {
-        return true;
-    }
-    if bad_pair(resolution) {
-        return true;
-    }
-    bad_pair(start)
+    bad_area(r.window) || bad_pair(r.resolution) || bad_pair(r.start)
 }
 
 // The cursor of a live command.
 fn bad_stage(s: Stage) -> bool
     ensures { result ≡ tests.bad_stage s }
 {
-    let current = s.current;
-    match current {
-        Current::Idle => false,
-        Current::Ignoring => false,
-        Current::Active(a) => {
-            if LAST_COLUMN < a.cursor.x {
-                return true;
-            }
-            LAST_ROW + 1 < a.cursor.y
-        }
+    match s.current {
+        Current::Idle | Current::Ignoring => false,
+        Current::Active(a) => LAST_COLUMN < a.cursor.x || LAST_ROW + 1 < a.cursor.y,
     }
 }
 
+#[tactic(auto, unfolding(controller::specs::TurnedBack::bad_levels))]
 fn bad_levels(l: Levels) -> bool
     ensures { result ≡ tests.bad_levels l }
 {
-    if MOST_LEVEL < l.vdh {
-        return true;
-    }
-    if MOST_LEVEL < l.vdl {
-        return true;
-    }
-    MOST_LEVEL < l.vdhr
+    MOST_LEVEL < l.vdh || MOST_LEVEL < l.vdl || MOST_LEVEL < l.vdhr
 }
 
 // The area, period and levels of a live refresh.
 fn bad_work(o: Operation, period: u64, levels: Levels) -> bool
     ensures { result ≡ tests.bad_work o.work period levels }
 {
-    let work = o.work;
-    match work {
-        Work::Nothing => false,
-        Work::PowerOn => false,
-        Work::PowerOff => false,
-        Work::DeepSleep => false,
-        Work::SoftReset => false,
-        Work::HardwareReset => false,
-        Work::Refresh(r) => {
-            let area = r.area;
-            if bad_area(area) {
-                return true;
-            }
-            if period == 0 {
-                return true;
-            }
-            bad_levels(levels)
-        }
+    match o.work {
+        Work::Refresh(r) => bad_area(r.area) || period == 0 || bad_levels(levels),
+        _ => false,
     }
 }
 
 // 6: a record outside the listed ranges.
+#[tactic(auto, unfolding(controller::specs::TurnedBack::foreign_record))]
 pub fn foreign(p: Uc8253) -> bool
     ensures { result ≡ tests.foreign_record p }
 {
-    let config = p.config;
-    if bad_config(config) {
-        return true;
-    }
-    let regs = p.regs;
-    if bad_registers(regs) {
-        return true;
-    }
-    let stage = p.stage;
-    if bad_stage(stage) {
-        return true;
-    }
-    let operation = p.operation;
-    let waveform = p.waveform;
-    let levels = waveform.levels;
-    if bad_work(operation, waveform.frame_ns, levels) {
-        return true;
-    }
-    MOST_ROWS < p.log.stored
+    bad_config(p.config)
+        || bad_registers(p.regs)
+        || bad_stage(p.stage)
+        || bad_work(p.operation, p.waveform.frame_ns, p.waveform.levels)
+        || MOST_ROWS < p.log.stored
 }
 
 // 5: the lengths of the lent buffers.
-pub fn lengths_fit(
+#[tactic(auto, unfolding(controller::specs::TurnedBack::lengths_fit))]
+fn lengths_fit(
     config: Uc8253Config,
     old: usize,
     new: usize,
@@ -159,52 +102,35 @@ pub fn lengths_fit(
 ) -> bool
     ensures { result ≡ tests.lengths_fit config old new states picture rows }
 {
-    let pixels = config.panel.sources as usize * config.panel.gates as usize;
-    if old != PLANE {
-        return false;
-    }
-    if new != PLANE {
-        return false;
-    }
-    if states != pixels {
-        return false;
-    }
-    if picture != pixels {
-        return false;
-    }
-    rows == ROWS
+    let pixels = usize::from(config.panel.sources) * usize::from(config.panel.gates);
+    old == PLANE && new == PLANE && states == pixels && picture == pixels && rows == ROWS
+}
+
+// The same of all that a call is lent.
+pub fn lent_fits(config: Uc8253Config, lent: &Lent<'_>) -> bool
+    ensures { result ≡ tests.lent_fits config (held lent.now) }
+{
+    lengths_fit(
+        config,
+        lent.old.len(),
+        lent.new.len(),
+        lent.states.len(),
+        lent.picture.len(),
+        lent.rows.len(),
+    )
 }
 
 fn cuts(power: Power, asserted: bool) -> bool
     ensures { result ≡ tests.cuts power asserted }
 {
-    match power {
-        Power::InReset => false,
-        Power::Running => asserted,
-        Power::Asleep => asserted,
-    }
+    asserted && !matches!(power, Power::InReset)
 }
 
 // Whether a call at a time, which may assert reset, ends a refresh.
+#[tactic(auto, unfolding(controller::specs::TurnedBack::ends_refresh))]
 pub fn ends_refresh(p: Uc8253, at: u64, asserted: bool) -> bool
     ensures { result ≡ tests.ends_refresh asserted at p }
 {
-    let mode = p.mode;
-    let power = mode.power;
-    let operation = p.operation;
-    let work = operation.work;
-    match work {
-        Work::Nothing => false,
-        Work::PowerOn => false,
-        Work::PowerOff => false,
-        Work::DeepSleep => false,
-        Work::SoftReset => false,
-        Work::HardwareReset => false,
-        Work::Refresh(_) => {
-            if p.operation.until <= greatest(p.now, at) {
-                return true;
-            }
-            cuts(power, asserted)
-        }
-    }
+    matches!(p.operation.work, Work::Refresh(_))
+        && (p.operation.until <= p.now.max(at) || cuts(p.mode.power, asserted))
 }

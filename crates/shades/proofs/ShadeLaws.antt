@@ -6,6 +6,10 @@ use native.Mathlib.Nat.{mul-le-mul}
 use native.Mathlib.Omega.{arith}
 use lib.IntN.{ℤ}
 use lib.ListN.{length, replicate, take, length-replicate}
+use Rattle.std.proofs.Common.{Result, Ok, Err}
+use Rattle.std.specs.Result.{result_err}
+use Rattle.base.specs.declared.refusals.Refusal.{Refusal}
+use Rattle.base.specs.RefusalNumbers.{number_of, number_in}
 use Rattle.config.proofs.RefusalLaws.{accepted}
 use Rattle.glass.specs.Gray.{top_of}
 use Rattle.outcome.specs.declared.Came.{Came}
@@ -21,6 +25,11 @@ use Rattle.controller.specs.Sound.{Sound}
 use Rattle.controller.specs.Calls.{wide_refused, wide_answer}
 use Rattle.controller.proofs.Wide.{wide_taken, wide_is}
 use Rattle.shades.specs.Shades.{room, shades_of}
+
+-- the number of what turned a call back
+pub number_err : {A : Type 0} (r : Result A Refusal) → number_of (result_err r) ≡ number_in r
+number_err (Ok x) = refl
+number_err (Err e) = refl
 
 -- two numbers of 16 bits
 pub small : (w h : ℕ) → w < 65_536 → h < 65_536 → w * h < 2 ^ 32

@@ -7,19 +7,20 @@ ghost use Rattle.output.specs.Units.{wide_of};
 ghost use Rattle.output.specs.Parts.{units_from};
 ghost use Rattle.shades.specs.Shades as spec;
 
+use base::number_of;
 use controller::Uc8253;
 use outcome::came_by;
-use output::{Form, Outcome, wide_count, wide_part};
+use output::{Form, Outcome, Part, wide_count, wide_part};
 use questions::wide_picture;
 use std::io;
 use std::io::{Error, ErrorKind, Write};
 
-// What is written of a panel: its form, and, of a picture, whether it is drawn at a top of its own.
+// What is written of a panel: its form, and, of a picture, the top of its own that it is drawn at, if it
+// is.
 #[derive(Clone, Copy)]
 pub struct Tone {
     pub form: Form,
-    pub wide: bool,
-    pub top: u16,
+    pub top: Option<u16>,
 }
 
 // The pixels of the largest panel, 800 by 600.
@@ -61,9 +62,7 @@ fn write_parts<W: Write>(
     let end = wide_count(form, o);
     let mut from: usize = 0;
     while from < end {
-        let part = wide_part(text, form, o, wide, top, from);
-        let held = part.held;
-        let next = part.next;
+        let Part { held, next } = wide_part(text, form, o, wide, top, from);
         if next == from {
             return Err(Error::from(ErrorKind::WriteZero));
         }
@@ -84,11 +83,12 @@ fn write_in<W: Write>(
 ) -> io::Result<()>
     requires { wide.old ≡ replicate (spec.room p) 0 }
 {
-    let refused = wide_picture(p, states, wide, top);
-    let came = came_by(refused.number());
-    let log = p.log;
-    let image = p.image;
-    let o = Outcome { came, log, image };
+    let refused = wide_picture(p, states, wide, top).err();
+    let o = Outcome {
+        came: came_by(number_of(refused)),
+        log: p.log,
+        image: p.image,
+    };
     let mut text = [0u8; ROOM];
     write_parts(&mut text, form, top, to, p, states, o, wide)
 }
@@ -97,7 +97,7 @@ fn room(p: Uc8253) -> usize
     ensures { (result ≡ spec.room p) × (result ≤ 480_000) }
 {
     let pixels = p.config.panel.sources as usize * p.config.panel.gates as usize;
-    if pixels < PIXELS { pixels } else { PIXELS }
+    pixels.min(PIXELS)
 }
 
 // The picture of the states at a top, 0 standing for 255; the answer is whether all of it could be

@@ -6,7 +6,7 @@ use Prim.Native.Nat.{ℕ, ◌+◌, ◌<◌}
 use lib.Dec.{eqb}
 use lib.ListN.{take}
 use borrow.Author.Tests.{eqb-false}
-use Rattle.base.specs.RefusalNumbers.{refusal_number}
+use Rattle.base.specs.RefusalNumbers.{number_of}
 use Rattle.capture.specs.declared.reading.Capture.{Capture}
 use Rattle.capture.specs.Layout.{offset_of, config_in}
 use Rattle.capture.specs.Refused.{capture_refused}
@@ -24,7 +24,7 @@ use Rattle.showing.specs.Played.{number_for, tested_by, play_refused, played, an
 
 -- ---- what was read, and what the file's definitions say
 module _ (file : List ℕ) (c : Capture) (t : Reads file c) where
-  pub program_number : (f : Form) (m : ℕ) → m ≡ number_for f (refusal_number c.refused) c.config → m ≡ tested_by f file
+  pub program_number : (f : Form) (m : ℕ) → m ≡ number_for f (number_of c.refused) c.config → m ≡ tested_by f file
   unfolding tested_by
   program_number f m e = e ∙ (λ i. number_for f (t.number_is i) (t.config_is i))
 

@@ -4,7 +4,7 @@ use mathlib.Core.List.{List, ◌++◌}
 use Prim.Native.Nat.{ℕ, ◌≤◌, min}
 use native.Mathlib.Decide.{dec_le}
 use native.Mathlib.Omega.{arith}
-use lib.IntN.{pos}
+use lib.IntN.{ℤ, pos}
 use lib.ListN.{length, take, drop, replicate, length-take, length-replicate, drop_of_length-le}
 use lib.Seq.{take_all, length-take-le}
 use Rattle.config.specs.declared.Uc8253Config.{Uc8253Config}
@@ -86,3 +86,8 @@ module _ (file : List ℕ) (b : Buffers) (p n q : ℕ) (ep : p ≡ panel_size fi
       let y = e ∙ ap (λ (c : Buffers). (played f file c).lent) front_is in
       λ i. buffers (y i).old (y i).new ((y i).states ++ rest_is b.states n en i) ((y i).picture ++ rest_is b.picture q eq i)
       (y i).rows
+
+-- what is left in each slice that a struct held
+pub left_in : {o o₂ n n₂ p p₂ r r₂ : List ℕ} {s s₂ : List ℤ} {b : Buffers} → o ≡ o₂ → n ≡ n₂ → s ≡ s₂ → p ≡ p₂ → r ≡ r₂
+    → buffers o₂ n₂ s₂ p₂ r₂ ≡ b → buffers o n s p r ≡ b
+left_in o n s p r e = rw (o, n, s, p, r) e

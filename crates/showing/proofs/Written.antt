@@ -6,6 +6,10 @@ use Prim.Native.Nat.{ℕ}
 use lib.Dec.{eqb}
 use lib.IntN.{ℤ}
 use lib.ListN.{length}
+use Rattle.std.proofs.Common.{Result, Ok, Err}
+use Rattle.std.specs.Result.{result_unwrap_or}
+use Rattle.base.specs.declared.refusals.Refusal.{Refusal}
+use Rattle.base.specs.RefusalNumbers.{given}
 use Rattle.base.specs.Pick.{pick}
 use Rattle.base.proofs.Cases.{by_cases}
 use Rattle.config.specs.Refusal.{empty_panel, refusal}
@@ -24,6 +28,11 @@ use Rattle.showing.specs.declared.Sizes.{Sizes}
 use Rattle.showing.specs.Played.{is_panel, tested_by, play_refused, played, answers_played}
 use Rattle.showing.specs.Shown.{fitted, sizes_of, blank, lent_answers, Fits}
 use Rattle.showing.specs.Output.{came_of, units_played, output_of, Output, shades_played, shaded_of}
+
+-- the record that playing left, that of zeros where the file was turned back
+pub chip_left : (r : Result Uc8253 Refusal) {p z : Uc8253} → p ≡ result_unwrap_or r z → z ≡ zeros → p ≡ given (λ q. q) zeros r
+chip_left (Ok q) e h = e
+chip_left (Err x) e h = e ∙ h
 
 -- a file that is not played has one unit, whatever is lent
 not_played : (f : Form) (file : List ℕ) (n : ℕ) (us vs : List (List ℕ)) → eqb n 0 ≡ false

@@ -1,38 +1,30 @@
 // A capture that was read, through the controller: its refusals, the making, and then its events.
 ghost use Rattle.std.specs.Prelude.{◌≡◌};
-ghost use Rattle.base.specs.RefusalNumbers.{refusal_number};
+ghost use Rattle.base.specs.RefusalNumbers.{number_of, number_in};
 ghost use Rattle.capture.specs.Reading.{Reads};
-ghost use Rattle.controller.specs.Lent.{before, Makes};
+ghost use Rattle.controller.specs.Lent.{before, Makes, Keeps};
 ghost use Rattle.showing.specs.Played as rule;
 
 use crate::is_panel;
 use base::Refusal;
 use capture::{Capture, too_many};
-use events::Played;
+use controller::{Lent, Uc8253};
 use output::Form;
-use uc8253::zeros;
 
 // What turned the file back, else, for `panel`, 10 for a panel that is too large.
-fn refusal(form: Form, c: Capture) -> Refusal
-    ensures { refusal_number result ≡ rule.number_for form (refusal_number c.refused) c.config }
+fn refusal(form: Form, c: Capture) -> Result<(), Refusal>
+    ensures { number_in result ≡ rule.number_for form (number_of c.refused) c.config }
 {
-    let refused = c.refused;
-    let config = c.config;
-    if is_panel(form) {
-        if refused.none() {
-            if too_many(config) {
-                return Refusal::TooManyPixels;
-            }
-            return refused;
-        }
-        return refused;
+    match c.refused {
+        Some(refused) => Err(refused),
+        None if is_panel(form) && too_many(c.config) => Err(Refusal::TooManyPixels),
+        None => Ok(()),
     }
-    refused
 }
 
 // What turns the file back, if anything does, before a making.
-pub fn tested(form: Form, file: &[u8]) -> Refusal
-    ensures { refusal_number result ≡ rule.tested_by form file.now }
+pub fn tested(form: Form, file: &[u8]) -> Result<(), Refusal>
+    ensures { number_in result ≡ rule.tested_by form file.now }
 {
     refusal(form, capture::read(file))
 }
@@ -43,33 +35,13 @@ pub(crate) fn play(
     file: &[u8],
     c: Capture,
     answers: &mut [u16],
-    old: &mut [u8],
-    new: &mut [u8],
-    states: &mut [i64],
-    picture: &mut [u8],
-    rows: &mut [u64],
-) -> Played
+    lent: &mut Lent<'_>,
+) -> Result<Uc8253, Refusal>
     requires { Reads file.now c }
-    ensures makes { Makes (rule.played form file.now) (rule.play_refused form file.now) result.chip result.refused
-        old new states picture rows }
-    ensures answers_after { answers.new
-        ≡ rule.answers_played form file.now (before old new states picture rows) answers.old }
+    ensures makes { Makes (rule.played form file.now) (rule.play_refused form file.now) result lent }
+    ensures answers_after { answers.new ≡ rule.answers_played form file.now (before lent) answers.old }
+    ensures kept { Keeps lent }
 {
-    let refused = refusal(form, c);
-    if refused.none() {
-        let config = c.config;
-        let end = c.end;
-        return events::play(
-            config,
-            &file[..end],
-            answers,
-            old,
-            new,
-            states,
-            picture,
-            rows,
-        );
-    }
-    let chip = zeros();
-    Played { chip, refused }
+    refusal(form, c)?;
+    events::play(c.config, &file[..c.end], answers, lent)
 }

@@ -2,9 +2,11 @@
 ghost use Rattle.std.specs.Prelude.{◌≡◌};
 ghost use Rattle.output.specs.Units.{units_of};
 ghost use Rattle.capture.specs.Reading.{events_end, events_of};
+ghost use Rattle.controller.specs.Lent.{held};
 ghost use Rattle.showing.specs.Output.{Output, Between};
 
 use crate::Sizes;
+use controller::Lent;
 use output::{Form, Outcome, count, next_part};
 use std::io;
 use std::io::{Error, ErrorKind, Write};
@@ -67,13 +69,14 @@ pub(crate) fn write<W: Write>(
     sizes: Sizes,
     o: Outcome,
     answers: &[u16],
-    picture: &[u8],
-    rows: &[u64],
+    lent: &Lent<'_>,
 ) -> io::Result<()>
     requires end_value { end ≡ events_end file.now }
-    requires output { Output form file.now sizes (units_of form o (events_of file.now) answers.now picture.now rows.now) }
+    requires output { Output form file.now sizes
+        (units_of form o (events_of file.now) answers.now (held lent.now).picture (held lent.now).rows) }
 {
     let mut text = [0u8; ROOM];
+    let events = &file[..end];
     write_parts(
         &mut text,
         file,
@@ -81,9 +84,9 @@ pub(crate) fn write<W: Write>(
         to,
         sizes,
         o,
-        &file[..end],
+        events,
         answers,
-        picture,
-        rows,
+        lent.picture,
+        lent.rows,
     )
 }

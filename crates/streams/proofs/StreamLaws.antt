@@ -1,5 +1,6 @@
 -- A run of pixel bytes does what its calls do, one by one: none is turned back, and each puts its eight pixels,
 -- moves the cursor, counts and moves the clock.
+use Rattle.std.proofs.Common.{None}
 use mathlib.Core.Path.{◌≡◌, refl, sym, ap, subst, ◌∙◌}
 use mathlib.Core.Bool.{Bool, true, false, ◌||◌, ◌&&◌, not, true≢false, false≢true}
 use mathlib.Core.List.{List}
@@ -30,7 +31,6 @@ use Rattle.controller.specs.declared.Work.{Work}
 use Rattle.controller.specs.declared.Work.TheVariants as work
 use Rattle.controller.specs.declared.Uc8253.{Uc8253}
 use Rattle.controller.specs.declared.drives.Drive.TheVariants as drive
-use Rattle.controller.specs.declared.notes.Note.TheVariants.{Quiet}
 use Rattle.controller.specs.declared.uses.Use.{Use}
 use Rattle.controller.specs.declared.uses.Use.TheVariants as use-for
 use Rattle.controller.specs.World.{World, Buffers, buffers, world}
@@ -48,12 +48,11 @@ use Rattle.controller.specs.Counting.{own}
 use Rattle.controller.proofs.Parts.{Stands, stands, good_cursor, next_stands}
 use Rattle.controller.proofs.TurnedAway.{did_yes}
 use Rattle.event.specs.declared.Event.{Event}
-use Rattle.streams.specs.declared.Change.{Change}
 use Rattle.streams.specs.declared.Flowed.{Flowed}
 use Rattle.event.specs.Events.{events_in, event_at, event_done, event_refused, event_answer}
 use Rattle.event.proofs.EventLaws.{Does, does_data}
 use Rattle.streams.specs.InnerStretch.{ran_on, Stretch, on_from, cursor_to, count_to, clock_to, plane_to, flows_by, AllFlow}
-use Rattle.streams.specs.InnerStretch.{Flows, flowed_chip, FlowsInto, rests_by, calm_with, endless_by, pixels_by, Aimed}
+use Rattle.streams.specs.InnerStretch.{flowed_chip, FlowsInto, rests_by, calm_with, endless_by, pixels_by, Aimed}
 
 -- ---- tests that fail
 neither : (x y : Bool) → (x || y) ≡ false → (x ≡ false) × (y ≡ false)
@@ -174,7 +173,7 @@ module _ (p : Uc8253) (b : Buffers) (a : Active) where
   unfolding pixel_byte pixel_chip on_from
   pixel_at c n t f = by_cases (past_row area c) (λ h. rw (h, rw h at f)) (λ h. rw h)
 
-  quiet_at : (c : Cursor) (n t : ℕ) → Fine c → past_note (along c n) (flowed_chip p a c n t) ≡ Quiet
+  quiet_at : (c : Cursor) (n t : ℕ) → Fine c → past_note (along c n) (flowed_chip p a c n t) ≡ None
   unfolding past_note
   quiet_at c n t f = by_cases (past_row area c) (λ h. rw (h, rw h at f)) (λ h. rw h)
 
@@ -209,11 +208,11 @@ module _ (p : Uc8253) (b : Buffers) (a : Active) where
     unfolding data_byte
     byte_at = ap (λ (x : Use). used_by own x (along c n) v there) (used_for older s c n v) ∙ used_by_lem older
 
-    told_by_lem : (older : Bool) → used_note (use_for older) (along c n) v there ≡ Quiet
+    told_by_lem : (older : Bool) → used_note (use_for older) (along c n) v there ≡ None
     told_by_lem true = quiet_at c n (max t u) f
     told_by_lem false = quiet_at c n (max t u) f
 
-    note_at : data_note v (arrived u here) ≡ Quiet
+    note_at : data_note v (arrived u here) ≡ None
     unfolding data_note
     note_at = ap (data_note v) arrived_at ∙ ap (λ (x : Use). used_note x (along c n) v there) (used_for older s c n v) ∙ told_by_lem older
 
@@ -221,7 +220,7 @@ module _ (p : Uc8253) (b : Buffers) (a : Active) where
     unfolding record_after
     record_at =
         let done = ap (data_byte own v) arrived_at ∙ byte_at in
-        λ i. with_log (log_told (notes (note_at i) Quiet) (done i).log) (done i)
+        λ i. with_log (log_told (notes (note_at i) None) (done i).log) (done i)
 
     plane_at : (mine : Use → Bool) (l : List ℕ) → plane_byte mine v (arrived u here) l ≡ pick (mine (use_for older)) (put_at area c v l) l
     unfolding plane_byte
@@ -237,7 +236,7 @@ module _ (p : Uc8253) (b : Buffers) (a : Active) where
         let old = ap (plane_byte for_old v (arrived u here)) (copied_at l.old l.new) ∙ plane_at for_old l.old in
         λ i. buffers (old i) (plane_at for_new l.new i) (states_by (driven_at_lem i) here l.old l.new l.states)
         (picture_by (driven_at_lem i) here (states_by (driven_at_lem i) here l.old l.new l.states) l.picture)
-        (rows_told (notes (note_at i) Quiet) (max t u) p.log l.rows)
+        (rows_told (notes (note_at i) None) (max t u) p.log l.rows)
 
   done_at : (older : Bool) → Streams older p b a → (c : Cursor) (n t u v : ℕ) (l : List ℕ) → Fine c
       → lent_after own (datum u v) (flowed_chip p a c n t) (with_plane older l b) ≡ with_plane older (put_at area c v l) b
@@ -387,18 +386,25 @@ more_flow bytes i k r c reported all last j h = elim (dec_le k j) [
     same_place : (k j : ℕ) → k ≤ j → j < suc k → k ≡ j
     same_place k j g h = omega arith
 
-module _ {bytes : List ℕ} {i : ℕ} {r : Area} {reported : Bool} {c : Cursor} {n t : ℕ} {l : List ℕ} where
-  pub flow_first : i ≤ events_in bytes → (k : ℕ) → k ≡ 0
-      → Flows bytes i r reported c n t l l (record { cursor = c; received = n; now = t; done = k })
-  flow_first h k z =
-      rw z (record { within = omega arith; all = λ j m. absurd (omega arith); stands = refl; count = refl; clock = refl; plane = refl })
+-- k bytes of a run from event i on, by what the loop holds: the plane m, the cursor d, the count o, the clock u
+pub record Along (bytes : List ℕ) (i : ℕ) (r : Area) (reported : Bool) (c : Cursor) (n t : ℕ) (l m : List ℕ) (d : Cursor) (o u k : ℕ) : Type 0 where
+  pub within : i + k ≤ events_in bytes
+  pub all : AllFlow bytes i k r c reported
+  pub stands : d ≡ cursor_to r k c
+  pub count : o ≡ count_to k n
+  pub clock : u ≡ clock_to bytes i k t
+  pub plane : m ≡ plane_to bytes i k r c l
 
-  pub flow_more : {m m' : List ℕ} {d d' : Cursor} {o o' u u' k : ℕ} {e : Event}
-      → Flows bytes i r reported c n t l m (record { cursor = d; received = o; now = u; done = k })
+module _ {bytes : List ℕ} {i : ℕ} {r : Area} {reported : Bool} {c : Cursor} {n t : ℕ} {l : List ℕ} where
+  pub along_first : i ≤ events_in bytes → Along bytes i r reported c n t l l c n t 0
+  along_first h = record { within = omega arith; all = λ j m. absurd (omega arith); stands = refl; count = refl; clock = refl; plane = refl }
+
+  pub along_more : {m m' : List ℕ} {d d' : Cursor} {o o' u u' k : ℕ} {e : Event}
+      → Along bytes i r reported c n t l m d o u k
       → e ≡ event_at bytes (i + k) → flows_by e.kind r d reported ≡ true → i + k < events_in bytes
       → m' ≡ put_at r d e.value m → d' ≡ on_from r d → o' ≡ counted_of o → u' ≡ max u e.time → (k' : ℕ) → k' ≡ suc k
-      → Flows bytes i r reported c n t l m' (record { cursor = d'; received = o'; now = u'; done = k' })
-  flow_more {k = k} {e = e} f q w h hm hd ho hu k' z =
+      → Along bytes i r reported c n t l m' d' o' u' k'
+  along_more {k = k} {e = e} f q w h hm hd ho hu k' z =
       rw z
       (record {
         within = omega arith;
@@ -409,13 +415,13 @@ module _ {bytes : List ℕ} {i : ℕ} {r : Area} {reported : Bool} {c : Cursor} 
         plane = hm ∙ (λ j. put_at r (f.stands j) (q j).value (f.plane j));
       })
 
-  pub flow_length : {m : List ℕ} {f : Change} → Flows bytes i r reported c n t l m f → length m ≡ length l
-  flow_length {f = f} x = ap (λ (y : List ℕ). length y) x.plane ∙ plane_length bytes i f.done r c l
+  pub along_length : {m : List ℕ} {d : Cursor} {o u k : ℕ} → Along bytes i r reported c n t l m d o u k → length m ≡ length l
+  along_length {k = k} x = ap (λ (y : List ℕ). length y) x.plane ∙ plane_length bytes i k r c l
 
 -- the record takes over what a run of bytes changed
-pub into_of : (bytes : List ℕ) (i : ℕ) (p : Uc8253) (a : Active) (l m : List ℕ) (r : Area) (f : Change) → r ≡ written_of p.regs
-    → Flows bytes i r a.past_reported a.cursor a.received p.now l m f
-    → FlowsInto bytes i p a l m (record { chip = flowed_chip p a f.cursor f.received f.now; done = f.done })
-into_of bytes i p a l m r f e h =
-    let g = subst (λ (x : Area). Flows bytes i x a.past_reported a.cursor a.received p.now l m f) e h in
+pub into_of : (bytes : List ℕ) (i : ℕ) (p : Uc8253) (a : Active) (l m : List ℕ) (r : Area) (d : Cursor) (o u k : ℕ) → r ≡ written_of p.regs
+    → Along bytes i r a.past_reported a.cursor a.received p.now l m d o u k
+    → FlowsInto bytes i p a l m (record { chip = flowed_chip p a d o u; done = k })
+into_of bytes i p a l m r d o u k e h =
+    let g = subst (λ (x : Area). Along bytes i x a.past_reported a.cursor a.received p.now l m d o u k) e h in
     record { within = g.within; all = g.all; chip = λ j. flowed_chip p a (g.stands j) (g.count j) (g.clock j); plane = g.plane }

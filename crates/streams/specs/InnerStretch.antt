@@ -21,7 +21,6 @@ use Rattle.controller.specs.World.{World}
 use Rattle.controller.specs.Setters.{with_current, with_now}
 use Rattle.controller.specs.TurnedBack.{foreign_record}
 use Rattle.controller.specs.DataByte.{counted_of, past_row, put_at}
-use Rattle.streams.specs.declared.Change.{Change}
 use Rattle.streams.specs.declared.Flowed.{Flowed}
 use Rattle.streams.specs.declared.Target.{Target}
 use Rattle.streams.specs.declared.Target.TheVariants as target
@@ -72,15 +71,6 @@ flows_by k a c reported = eqb k 2 && pick (past_row a c) reported true
 abbrev pub AllFlow : List ℕ → ℕ → ℕ → Area → Cursor → Bool → Type 0
 AllFlow bytes i k a c reported = (j : ℕ) → j < k → flows_by (event_at bytes (i + j)).kind a (cursor_to a j c) reported ≡ true
 
--- what a run of pixel bytes from event i on hands back
-pub record Flows (bytes : List ℕ) (i : ℕ) (a : Area) (reported : Bool) (c : Cursor) (n t : ℕ) (l m : List ℕ) (f : Change) : Type 0 where
-  pub within : i + f.done ≤ events_in bytes
-  pub all : AllFlow bytes i f.done a c reported
-  pub stands : f.cursor ≡ cursor_to a f.done c
-  pub count : f.received ≡ count_to f.done n
-  pub clock : f.now ≡ clock_to bytes i f.done t
-  pub plane : m ≡ plane_to bytes i f.done a c l
-
 -- the record after it
 abbrev pub flowed_chip : Uc8253 → Active → Cursor → ℕ → ℕ → Uc8253
 flowed_chip p a c n t =
@@ -95,6 +85,7 @@ flowed_chip p a c n t =
       past_reported = a.past_reported;
     })) p)
 
+-- what a run of pixel bytes from event i on hands back
 pub record FlowsInto (bytes : List ℕ) (i : ℕ) (p : Uc8253) (a : Active) (l m : List ℕ) (f : Flowed) : Type 0 where
   pub within : i + f.done ≤ events_in bytes
   pub all : AllFlow bytes i f.done (written_of p.regs) a.cursor a.past_reported

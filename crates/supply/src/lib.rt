@@ -22,9 +22,9 @@ fn levels() -> [u16; 64]
 }
 
 // A supply level by the low six bits of its byte.
+#[tactic(auto, unfolding(crate::specs::Supply::Listed))]
 pub fn supply_millivolts(code: u8) -> u16
     ensures { result ≡ supply_level code }
 {
-    let levels = levels();
-    levels[(code % 64) as usize]
+    levels()[(code % 64) as usize]
 }

@@ -1,9 +1,9 @@
 // What the controller shows after an event, ours and the Rust's, as numbers that are compared one by
 // one.
 use crate::report;
-use base::saturating_add;
+use base::{Refusal, number_of};
 use capture::little;
-use controller::{Due, Uc8253};
+use controller::Uc8253;
 use uc8253::{busy_pin, next_deadline};
 
 // The bytes of the answers after an event.
@@ -58,54 +58,28 @@ pub struct Tally {
     pub differ: u64,
 }
 
-fn flag(b: bool) -> u64 {
-    if b { 1 } else { 0 }
-}
-
-fn is_due(due: Due) -> u64 {
-    match due {
-        Due::Never => 0,
-        Due::At(_) => 1,
-    }
-}
-
-fn due_time(due: Due) -> u64 {
-    match due {
-        Due::Never => 0,
-        Due::At(t) => t,
-    }
-}
-
-// The first refusal of an event's three calls, 0 standing for none.
-fn first(event: u8, busy: u8, deadline: u8) -> u64 {
-    if event != 0 {
-        return event as u64;
-    }
-    if busy != 0 {
-        return busy as u64;
-    }
-    deadline as u64
-}
-
-// Ours, after an event at that time which was refused by a number and read what it read.
-pub(crate) fn ours(p: Uc8253, at: u64, refused: u8, read: u16, planes: u64) -> Answers {
+// Ours, after an event at that time which was turned back or not and read what it read: the first refusal
+// of its three calls.
+pub(crate) fn ours(
+    p: Uc8253,
+    at: u64,
+    refused: Option<Refusal>,
+    read: u16,
+    planes: u64,
+) -> Answers {
     let busy = busy_pin(p, at);
-    let busy_turned = busy.refused;
     let deadline = next_deadline(p);
-    let deadline_turned = deadline.refused;
-    let due = deadline.due;
-    let log = p.log;
-    let image = p.image;
+    let due = deadline.unwrap_or(None);
     Answers {
         stored: ANSWERS as u64,
-        refused: first(refused, busy_turned.number(), deadline_turned.number()),
-        read: read as u64,
-        busy: flag(busy.busy),
-        due: is_due(due),
-        deadline: due_time(due),
-        rows: log.stored as u64,
-        dropped: log.dropped % HALF,
-        generation: image.generation % WORD,
+        refused: u64::from(number_of(refused.or(busy.err()).or(deadline.err()))),
+        read: u64::from(read),
+        busy: u64::from(busy.unwrap_or(false)),
+        due: u64::from(due.is_some()),
+        deadline: due.unwrap_or(0),
+        rows: u64::from(p.log.stored),
+        dropped: p.log.dropped % HALF,
+        generation: p.image.generation % WORD,
         planes,
     }
 }
@@ -126,82 +100,41 @@ pub(crate) fn theirs(bytes: &[u8], stored: usize) -> Answers {
     }
 }
 
-// An answer of the trace that is under way, after its event of that index.
-pub(crate) fn held<R: Print>(
-    rt: &R,
-    t: Tally,
-    event: u64,
-    which: Which,
-    ours: u64,
-    theirs: u64,
-) -> Tally {
-    if ours == theirs {
-        return t;
+impl Tally {
+    // An answer of the trace that is under way, after its event of that index.
+    pub(crate) fn hold<R: Print>(
+        &mut self,
+        rt: &R,
+        event: u64,
+        which: Which,
+        ours: u64,
+        theirs: u64,
+    ) {
+        if ours == theirs {
+            return;
+        }
+        if self.differ < SHOWN {
+            report::difference(rt, self.traces, event, which, ours, theirs);
+        }
+        self.differ = self.differ.saturating_add(1);
     }
-    if t.differ < SHOWN {
-        report::difference(rt, t.traces, event, which, ours, theirs);
-    }
-    Tally {
-        traces: t.traces,
-        events: t.events,
-        differ: saturating_add(t.differ, 1),
-    }
-}
 
-// What the event's own call gave, and the pins.
-fn compare_call<R: Print>(rt: &R, t: Tally, event: u64, ours: Answers, theirs: Answers) -> Tally {
-    let stored = held(rt, t, event, Which::Stored, ours.stored, theirs.stored);
-    let refused = held(
-        rt,
-        stored,
-        event,
-        Which::Refused,
-        ours.refused,
-        theirs.refused,
-    );
-    let read = held(rt, refused, event, Which::Read, ours.read, theirs.read);
-    let busy = held(rt, read, event, Which::Busy, ours.busy, theirs.busy);
-    let due = held(rt, busy, event, Which::Due, ours.due, theirs.due);
-    held(
-        rt,
-        due,
-        event,
-        Which::Deadline,
-        ours.deadline,
-        theirs.deadline,
-    )
-}
-
-// All answers after an event.
-pub(crate) fn compare<R: Print>(
-    rt: &R,
-    t: Tally,
-    event: u64,
-    ours: Answers,
-    theirs: Answers,
-) -> Tally {
-    let call = compare_call(rt, t, event, ours, theirs);
-    let rows = held(rt, call, event, Which::Rows, ours.rows, theirs.rows);
-    let dropped = held(
-        rt,
-        rows,
-        event,
-        Which::Dropped,
-        ours.dropped,
-        theirs.dropped,
-    );
-    let image = held(
-        rt,
-        dropped,
-        event,
-        Which::Generation,
-        ours.generation,
-        theirs.generation,
-    );
-    let planes = held(rt, image, event, Which::Planes, ours.planes, theirs.planes);
-    Tally {
-        traces: planes.traces,
-        events: saturating_add(planes.events, 1),
-        differ: planes.differ,
+    // All answers after an event.
+    pub(crate) fn compare<R: Print>(&mut self, rt: &R, event: u64, ours: Answers, theirs: Answers) {
+        for (which, here, there) in [
+            (Which::Stored, ours.stored, theirs.stored),
+            (Which::Refused, ours.refused, theirs.refused),
+            (Which::Read, ours.read, theirs.read),
+            (Which::Busy, ours.busy, theirs.busy),
+            (Which::Due, ours.due, theirs.due),
+            (Which::Deadline, ours.deadline, theirs.deadline),
+            (Which::Rows, ours.rows, theirs.rows),
+            (Which::Dropped, ours.dropped, theirs.dropped),
+            (Which::Generation, ours.generation, theirs.generation),
+            (Which::Planes, ours.planes, theirs.planes),
+        ] {
+            self.hold(rt, event, which, here, there);
+        }
+        self.events = self.events.saturating_add(1);
     }
 }

@@ -1,32 +1,13 @@
-// FNV-1a in 32 bits, over the two planes.
+// FNV-1a in 32 bits, as it goes over the planes.
 
-const OFFSET: u32 = 2_166_136_261;
+pub(crate) const OFFSET: u32 = 2_166_136_261;
 
-const PRIME: u64 = 16_777_619;
+const PRIME: u32 = 16_777_619;
 
-// 2^32.
-const WORD: u64 = 4_294_967_296;
-
-// The product's low 32 bits.
-fn scaled(x: u32) -> u32 {
-    (x as u64 * PRIME % WORD) as u32
-}
-
-fn mixed(hash: u32, byte: u8) -> u32 {
-    scaled(hash ^ byte as u32)
-}
-
-fn digested(start: u32, bytes: &[u8]) -> u32 {
-    let mut hash = start;
-    let mut i: usize = 0;
-    while i < bytes.len() {
-        hash = mixed(hash, bytes[i]);
-        i += 1;
-    }
-    hash
-}
-
-// OLD, then NEW.
-pub(crate) fn planes(old: &[u8], new: &[u8]) -> u32 {
-    digested(digested(OFFSET, old), new)
+// The bytes behind those that gave the hash so far.
+pub(crate) fn digested(start: u32, bytes: &[u8]) -> u32 {
+    bytes.iter().fold(
+        start,
+        |hash, byte| (hash ^ u32::from(*byte)).wrapping_mul(PRIME),
+    )
 }

@@ -8,10 +8,7 @@ mod digest;
 mod report;
 mod trace;
 
-ghost use Rattle.std.specs.Prelude.{◌≤◌, length};
-
 use answers::Tally;
-use base::{TOP, least, saturating_add};
 use capture::little;
 use input::read_full;
 use showing::INPUT;
@@ -23,30 +20,26 @@ const LENGTH: usize = 4;
 
 // The trace whose capture is the next bytes of the input, as many as there is space for, or those
 // that are left.
-fn retrace_next<R: Print, I: Read>(rt: &R, input: &mut I, t: Tally, space: &mut [u8]) -> Tally {
+fn retrace_next<R: Print, I: Read>(rt: &R, input: &mut I, t: &mut Tally, space: &mut [u8]) {
     let n = read_full(input, space);
-    retrace(rt, input, t, &space[..n])
+    retrace(rt, input, t, &space[..n]);
 }
 
 // The trace whose capture has that length.
-fn retrace_sized<R: Print, I: Read>(rt: &R, input: &mut I, t: Tally, length: u64) -> Tally {
-    let n = least(length, INPUT as u64);
+fn retrace_sized<R: Print, I: Read>(rt: &R, input: &mut I, t: &mut Tally, length: u64) {
+    let n = length.min(INPUT as u64);
     let mut buffer = [0u8; INPUT];
-    let after = retrace_next(rt, input, t, &mut buffer[..n as usize]);
-    Tally {
-        traces: saturating_add(after.traces, 1),
-        events: after.events,
-        differ: after.differ,
-    }
+    retrace_next(rt, input, t, &mut buffer[..n as usize]);
+    t.traces = t.traces.saturating_add(1);
 }
 
-// The length of the next capture; TOP, which four bytes cannot hold, where there is none.
-fn next_length<I: Read>(input: &mut I) -> u64 {
+// The length of the next capture, if there is one.
+fn next_length<I: Read>(input: &mut I) -> Option<u64> {
     let mut head = [0u8; LENGTH];
     if read_full(input, &mut head) < LENGTH {
-        return TOP;
+        return None;
     }
-    little(&head, 0, LENGTH)
+    Some(little(&head, 0, LENGTH))
 }
 
 // Nothing says that an input ends, so the turns are counted; no input has so many.
@@ -56,14 +49,11 @@ fn retrace_all<R: Print, I: Read>(rt: &R, input: &mut I) -> Tally {
         events: 0,
         differ: 0,
     };
-    let mut turns = TOP;
-    while 0 < turns {
-        let length = next_length(input);
-        if length == TOP {
+    for _ in 0..u64::MAX {
+        let Some(length) = next_length(input) else {
             return t;
-        }
-        t = retrace_sized(rt, input, t, length);
-        turns -= 1;
+        };
+        retrace_sized(rt, input, &mut t, length);
     }
     t
 }

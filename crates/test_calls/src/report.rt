@@ -1,18 +1,22 @@
 // What the program writes.
 use crate::answers::{Tally, Which};
+use std::fmt;
+use std::fmt::Write;
 
-fn name(which: Which) -> &'static str {
-    match which {
-        Which::Stored => "answers",
-        Which::Refused => "refused",
-        Which::Read => "read",
-        Which::Busy => "busy",
-        Which::Due => "due",
-        Which::Deadline => "deadline",
-        Which::Rows => "rows",
-        Which::Dropped => "dropped",
-        Which::Generation => "generation",
-        Which::Planes => "planes",
+impl fmt::Display for Which {
+    fn fmt<W: fmt::Write>(&self, f: &mut fmt::Formatter<W>) -> fmt::Result {
+        f.write_str(match self {
+            Which::Stored => "answers",
+            Which::Refused => "refused",
+            Which::Read => "read",
+            Which::Busy => "busy",
+            Which::Due => "due",
+            Which::Deadline => "deadline",
+            Which::Rows => "rows",
+            Which::Dropped => "dropped",
+            Which::Generation => "generation",
+            Which::Planes => "planes",
+        })
     }
 }
 
@@ -25,8 +29,7 @@ pub(crate) fn difference<R: Print>(
     ours: u64,
     theirs: u64,
 ) {
-    let name = name(which);
-    let _ = println!(rt; "trace {trace} event {event} {name} ours {ours} theirs {theirs}");
+    let _ = println!(rt; "trace {trace} event {event} {which} ours {ours} theirs {theirs}");
 }
 
 pub(crate) fn summary<R: Print>(rt: &R, t: Tally) {

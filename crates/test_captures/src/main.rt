@@ -4,7 +4,6 @@
 
 ghost use Rattle.std.specs.Prelude.{◌≤◌, length};
 
-use base::{TOP, least};
 use capture::little;
 use input::read_full;
 use showing::{INPUT, show_panel};
@@ -36,11 +35,12 @@ fn pass_some<I: Read>(input: &mut I, n: usize) -> bool
     read_full(input, &mut space[..n]) == n
 }
 
-// Passes over so many bytes of the input, or those that are left.
+// Passes over so many bytes of the input, or those that are left: a while, since each turn takes a
+// chunk of what is left.
 fn pass<I: Read>(input: &mut I, count: u64) {
     let mut left = count;
     while 0 < left {
-        let n = least(left, CHUNK as u64);
+        let n = left.min(CHUNK as u64);
         if !pass_some(input, n as usize) {
             return;
         }
@@ -50,7 +50,7 @@ fn pass<I: Read>(input: &mut I, count: u64) {
 
 // A capture of that length. Of one that is larger than any that is played the rest is passed over.
 fn replay<R: Print + Eprint, I: Read>(rt: &R, input: &mut I, length: u64) {
-    let n = least(length, INPUT as u64);
+    let n = length.min(INPUT as u64);
     let mut buffer = [0u8; INPUT];
     play_next(rt, input, &mut buffer[..n as usize]);
     pass(input, length - n);
@@ -69,11 +69,9 @@ fn replay_next<R: Print + Eprint, I: Read>(rt: &R, input: &mut I) -> bool {
 // Nothing says that an input ends, so the turns are counted; no input has so many.
 fn main(rt: HostRuntime) {
     let mut input = rt.reader();
-    let mut turns = TOP;
-    while 0 < turns {
+    for _ in 0..u64::MAX {
         if !replay_next(&rt, &mut input) {
             return;
         }
-        turns -= 1;
     }
 }

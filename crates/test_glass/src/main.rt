@@ -7,23 +7,23 @@ mod print;
 mod refresh;
 mod table;
 
-ghost use Rattle.std.specs.Prelude.{◌≤◌, length};
-
 use input::read_full;
 use std::io::Input;
 use table::Table;
 
 fn replay<R: Print>(rt: &R, s: &[u8]) {
-    let levels = table::compared(rt, Table::Level, s, 0);
-    print::summary(rt, Table::Level, levels);
-    let grays = table::compared(rt, Table::Gray, s, levels.next);
-    print::summary(rt, Table::Gray, grays);
-    let refreshes = table::compared(rt, Table::Refresh, s, grays.next);
-    print::summary(rt, Table::Refresh, refreshes);
-    let ruled = table::compared(rt, Table::Ruled, s, refreshes.next);
-    print::summary(rt, Table::Ruled, ruled);
-    let wide = table::compared(rt, Table::Wide, s, ruled.next);
-    print::summary(rt, Table::Wide, wide);
+    let mut next = 0;
+    for table in [
+        Table::Level,
+        Table::Gray,
+        Table::Refresh,
+        Table::Ruled,
+        Table::Wide,
+    ] {
+        let t = table::compared(rt, table, s, next);
+        print::summary(rt, table, t);
+        next = t.next;
+    }
 }
 
 fn main(rt: HostRuntime) {

@@ -3,7 +3,6 @@
 // and so many bytes, zeros after; then the answers DURATION and GREY. Before all that, in a row of
 // either rule, VCOM's rule, 1 or 2.
 use crate::table::{Checked, byte};
-use base::least;
 use test_numerals::number;
 use waveform::{LUTS, Levels, Waveform, whole_frames};
 
@@ -16,12 +15,11 @@ struct Lut {
 
 fn read_lut(s: &[u8], at: usize) -> Lut {
     let count = number(s, at);
-    let n = least(count.value, 42);
     let mut bytes = [0u8; 42];
     let mut next = count.next;
-    for i in 0u64..n {
+    for to in bytes.iter_mut().take(count.value.min(42) as usize) {
         let b = number(s, next);
-        bytes[i as usize] = byte(b.value);
+        *to = byte(b.value);
         next = b.next;
     }
     Lut { bytes, next }
@@ -37,10 +35,10 @@ struct Loaded {
 fn read_waveform(s: &[u8], at: usize, levels: Levels, period: u64, by_frame: bool) -> Loaded {
     let mut luts = [[0u8; 42]; LUTS];
     let mut next = at;
-    for k in 0..LUTS {
+    for to in luts.iter_mut() {
         let lut = read_lut(s, next);
         let bytes = lut.bytes;
-        luts[k] = bytes;
+        *to = bytes;
         next = lut.next;
     }
     let waveform = Waveform::new(luts, levels, period, by_frame);

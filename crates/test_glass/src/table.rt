@@ -1,11 +1,11 @@
 // A table of stored answers: a count of rows, then the rows. Words between the numbers are passed
 // over, and each row's answers are compared with the functions'.
 use crate::{print, refresh};
-use base::{least, saturating_add};
+use std::fmt;
 use test_numerals::number;
 
 // Whose answers a table holds.
-#[derive(Clone, Copy)]
+#[derive(Clone, Copy, Debug, PartialEq, Eq)]
 pub enum Table {
     // Rows of GRAY SWING STATE.
     Level,
@@ -16,6 +16,18 @@ pub enum Table {
     Ruled,
     // Rows of TOP STATE SWING GREY, of tests/greys.py.
     Wide,
+}
+
+impl fmt::Display for Table {
+    fn fmt<W: fmt::Write>(&self, f: &mut fmt::Formatter<W>) -> fmt::Result {
+        f.write_str(match self {
+            Table::Level => "level",
+            Table::Gray => "gray",
+            Table::Refresh => "refresh",
+            Table::Ruled => "ruled",
+            Table::Wide => "wide",
+        })
+    }
 }
 
 // Whether a row's answers are the functions', and the place after it.
@@ -84,15 +96,15 @@ fn compare_row<R: Print>(rt: &R, table: Table, s: &[u8], t: Tally) -> Tally {
     let row = check_row(table, s, t.next);
     if row.same && row.next < s.len() {
         return Tally {
-            equal: saturating_add(t.equal, 1),
+            equal: t.equal.saturating_add(1),
             different: t.different,
             next: row.next,
         };
     }
-    print::row(rt, table, saturating_add(t.equal, t.different));
+    print::row(rt, table, t.equal.saturating_add(t.different));
     Tally {
         equal: t.equal,
-        different: saturating_add(t.different, 1),
+        different: t.different.saturating_add(1),
         next: row.next,
     }
 }
@@ -101,15 +113,13 @@ fn compare_row<R: Print>(rt: &R, table: Table, s: &[u8], t: Tally) -> Tally {
 // believed.
 pub(crate) fn compared<R: Print>(rt: &R, table: Table, s: &[u8], at: usize) -> Tally {
     let rows = number(s, at);
-    let mut left = least(rows.value, s.len() as u64);
     let mut t = Tally {
         equal: 0,
         different: 0,
         next: rows.next,
     };
-    while 0 < left {
+    for _ in 0..rows.value.min(s.len() as u64) {
         t = compare_row(rt, table, s, t);
-        left -= 1;
     }
     t
 }

@@ -9,7 +9,7 @@ use lib.ListN.{length, get_or, drop, drop_of_length-le}
 use lib.Seq.{drop-cons}
 use Rattle.base.specs.Word.{top}
 use Rattle.test_numerals.specs.declared.scan.Number.{Number}
-use Rattle.test_numerals.specs.Rows.{is_digit, first_digit, skipped, more, taken, digits_at, number_at}
+use Rattle.test_numerals.specs.Rows.{is_digit, first_digit, skipped, taken, digits_at, number_at}
 
 -- ---- on the way to a digit
 module _ (s : List ℕ) (i : ℕ) where
@@ -27,18 +27,11 @@ module _ (s : List ℕ) (i : ℕ) where
 
 -- ---- over the digits
 module _ (n : Number) (s : List ℕ) (i : ℕ) where
-  pub taken_digit : i < length s → is_digit (get_or s i 0) ≡ true → taken n (drop i s) ≡ taken (more (get_or s i 0) n) (drop (i + 1) s)
-  taken_digit h e = rw (drop-cons s i 0 h, e, add-one i)
-
-  pub taken_other : i < length s → is_digit (get_or s i 0) ≡ false → taken n (drop i s) ≡ n
-  taken_other h e = rw (drop-cons s i 0 h, e)
-
   pub taken_end : length s ≤ i → taken n (drop i s) ≡ n
   taken_end h = rw (drop_of_length-le s h)
 
 -- no digit left
 pub number_none : (s : List ℕ) (p : ℕ) → skipped s p ≡ length s → number_at s p ≡ record { value = 0; next = length s }
-unfolding digits_at
 number_none s p e = ap (digits_at s) e ∙ taken_end (record { value = 0; next = length s }) s (length s) (omega arith)
 
 -- ---- the number that the digits in front of s make after v, however large
@@ -61,7 +54,6 @@ held v p (b ∷ s) =
     refl
 
 pub number_held : (s : List ℕ) (p : ℕ) → (number_at s p).value ≡ min (decimal 0 (drop (skipped s p) s)) top
-unfolding digits_at
 number_held s p = held 0 (skipped s p) (drop (skipped s p) s)
 
 -- ---- "a 12 7" at its start, after the 12, and at its end
@@ -69,13 +61,13 @@ text : List ℕ
 text = 97 ∷ 32 ∷ 49 ∷ 50 ∷ 32 ∷ 55 ∷ []
 
 first : number_at text 0 ≡ record { value = 12; next = 4 }
-unfolding text is_digit skipped digits_at
+unfolding text skipped
 first = refl
 
 second : number_at text 4 ≡ record { value = 7; next = 6 }
-unfolding text is_digit skipped digits_at
+unfolding text skipped
 second = refl
 
 none : number_at text 9 ≡ record { value = 0; next = 6 }
-unfolding text is_digit skipped digits_at
+unfolding text skipped
 none = refl

@@ -4,7 +4,7 @@ use Rattle.base.specs.Word.{top}
 use Rattle.test_numerals.specs.declared.scan.Number.{Number}
 
 -- '0' to '9'
-unfoldable pub is_digit : ℕ → Bool
+abbrev pub is_digit : ℕ → Bool
 is_digit b = leb 48 b && leb b 57
 
 -- the place of the first digit of bytes that stand from place i on, or of their end
@@ -26,7 +26,7 @@ taken n [] = n
 taken n (b ∷ s) = cond (is_digit b) (taken (more b n) s) n
 
 -- the number whose digits begin at the place i of the text s
-unfoldable pub digits_at : List ℕ → ℕ → Number
+abbrev pub digits_at : List ℕ → ℕ → Number
 digits_at s i = taken (record { value = 0; next = i }) (drop i s)
 
 -- the first number at or after the place p; where there is none, 0 and the length

@@ -2,10 +2,8 @@
 ghost use Rattle.std.specs.Prelude.{◌≡◌, ◌-◌};
 ghost use Rattle.test_numerals.specs.Rows.{is_digit, skipped, digits_at};
 
-use base::{saturating_add, saturating_mul, saturating_sub};
-
 // A number of a text, and the place after its last digit.
-#[derive(Clone, Copy)]
+#[derive(Clone, Copy, Debug, PartialEq, Eq)]
 pub struct Number {
     pub value: u64,
     pub next: usize,
@@ -14,26 +12,24 @@ pub struct Number {
 fn digit(b: u8) -> bool
     ensures { result ≡ is_digit b }
 {
-    if b < b'0' { false } else { b <= b'9' }
+    matches!(b, b'0'..=b'9')
 }
 
 // What a digit counts.
 fn figure(b: u8) -> u64
     ensures { result ≡ b - 48 }
 {
-    saturating_sub(b as u64, 48)
+    (b as u64).saturating_sub(48)
 }
 
 // The place of the first digit at or after the place at, or the text's end.
 pub(crate) fn skip(s: &[u8], at: usize) -> usize
     ensures { result ≡ skipped s.now at }
 {
-    let mut i = at;
-    while i < s.len() {
+    for i in at..s.len() {
         if digit(s[i]) {
             return i;
         }
-        i += 1;
     }
     s.len()
 }
@@ -43,14 +39,15 @@ pub(crate) fn digits(s: &[u8], at: usize) -> Number
     ensures { result ≡ digits_at s.now at }
 {
     let mut value: u64 = 0;
-    let mut i = at;
-    while i < s.len() {
+    for i in at..s.len() {
         let b = s[i];
         if !digit(b) {
             return Number { value, next: i };
         }
-        value = saturating_add(saturating_mul(value, 10), figure(b));
-        i += 1;
+        value = value.saturating_mul(10).saturating_add(figure(b));
     }
-    Number { value, next: i }
+    Number {
+        value,
+        next: at.max(s.len()),
+    }
 }

@@ -2,11 +2,15 @@
 use mathlib.Core.Path.{◌≡◌, refl, sym, ap, ◌∙◌}
 use mathlib.Core.List.{List, [], ◌∷◌, ◌++◌, append-nil, append_assoc}
 use Prim.Native.Nat.{ℕ, zero, suc, ◌+◌, ◌-◌, ◌≤◌, ◌<◌, min}
-use native.Mathlib.Nat.{zero-add, suc-add, zero-min, suc-min-suc, not-suc-le-zero, le_of_suc-le-suc}
+use native.Mathlib.Nat.{zero-add, add-zero, suc-add, zero-min, suc-min-suc, not-suc-le-zero, le_of_suc-le-suc}
 use native.Mathlib.Omega.{arith}
+use borrow.Rule.Slice.Mut.{set_vals}
+use borrow.Rule.Slice.PartMut.{put_mid}
 use lib.ListN.{length, take, drop, set, length-append, length-take, length-drop, drop_of_length-le}
-use lib.Seq.{take-nil, drop-nil, take_all, take-take, take-append-le, take-append_seam, take-length, drop-drop, set_split, paste}
-use Rattle.text.specs.Text.{filled, laid, Puts}
+use lib.Seq.{take-nil, drop-nil, take_all, take-take, take-append-le, take-append_seam, drop-drop}
+use Rattle.std.proofs.lemmas.List.{take_min, drop_min, take-append-drop}
+use Rattle.text.specs.declared.Text.{Text}
+use Rattle.text.specs.Text.{filled, laid, put}
 
 -- ---- over the start of a buffer
 pub filled_nil : (b : List ℕ) → filled [] b ≡ b
@@ -39,7 +43,7 @@ unfolding laid
 laid_cons h c x b = refl
 
 -- a text and then another from its end on is the two joined
-pub filled_more : (t x b : List ℕ) → laid (min (length t) (length b)) x (filled t b) ≡ filled (t ++ x) b
+filled_more : (t x b : List ℕ) → laid (min (length t) (length b)) x (filled t b) ≡ filled (t ++ x) b
 filled_more [] x b = rw (zero-min, filled_nil) (laid_zero x b)
 filled_more (a ∷ t) x [] = rw filled_none (laid_none _ x ∙ sym (filled_none (a ∷ t ++ x)))
 filled_more (a ∷ t) x (c ∷ b) =
@@ -58,47 +62,37 @@ laid_then (suc h) x y (c ∷ b) =
     rw (suc-add, suc-min-suc, laid_cons h c x b, laid_cons (min (h + length x) (length b)) c y (laid h x b), laid_cons h c (x ++ y) b)
     (ap (λ (l : List ℕ). c ∷ l) (laid_then h x y b))
 
--- two puts, one after the other, are one of the two texts joined
-pub puts_then : {x y b c d : List ℕ} {h r s : ℕ} → Puts x h r b c → Puts y r s c d → Puts (x ++ y) h s b d
-puts_then {x} {y} {b} {c} {d} {h} {r} {s} p q = record {
-  buffer = q.buffer ∙ rw (p.buffer, p.count) (laid_then h x y b);
-  count = rw (length-append x y) (omega (arith, q.count, p.count, long));
-}
-  where
-    long : length c ≡ length b
-    long = ap length p.buffer ∙ length_laid h x b
+-- a place past the end is the end
+laid_min : (h : ℕ) (x b : List ℕ) → laid (min h (length b)) x b ≡ laid h x b
+unfolding laid
+laid_min h x b = rw (take_min, drop_min)
 
--- from the start of the buffer
-pub puts_filled : {x b c : List ℕ} {r : ℕ} → Puts x 0 r b c → c ≡ filled x b
-puts_filled {x} {b} p = p.buffer ∙ laid_zero x b
-
-pub length_puts : {x b c : List ℕ} {h r : ℕ} → Puts x h r b c → length c ≡ length b
-length_puts {x} {b} {h} p = ap length p.buffer ∙ length_laid h x b
-
-pub puts_within : {x b c : List ℕ} {h r : ℕ} → Puts x h r b c → r ≤ length c
-puts_within p = omega (arith, p.count, length_puts p)
-
-pub puts_as : {x y b c : List ℕ} {h r : ℕ} → Puts x h r b c → x ≡ y → Puts y h r b c
-puts_as p e = rw (← e) p
-
--- nothing is put
+-- nothing is laid
 laid_nothing : (h : ℕ) (b : List ℕ) → laid h [] b ≡ b
 laid_nothing zero b = laid_zero [] b ∙ filled_nil b
 laid_nothing (suc h) [] = laid_none (suc h) []
 laid_nothing (suc h) (c ∷ b) = laid_cons h c [] b ∙ ap (λ (l : List ℕ). c ∷ l) (laid_nothing h b)
-
-pub puts_nothing : (h : ℕ) (b : List ℕ) → h ≤ length b → Puts [] h h b b
-puts_nothing h b l = record { buffer = sym (laid_nothing h b); count = omega arith }
 
 -- the buffer is full
 laid_full : (h : ℕ) (x b : List ℕ) → length b ≤ h → laid h x b ≡ b
 unfolding laid
 laid_full h x b l = rw (take_all h b l, drop_of_length-le b l, filled_none) (append-nil b)
 
-pub puts_full : (x b : List ℕ) (h : ℕ) → length b ≤ h → Puts x h (length b) b b
-puts_full x b h l = record { buffer = sym (laid_full h x b l); count = omega arith }
+laid_byte : (a h : ℕ) (b : List ℕ) → h < length b → set b h a ≡ laid h (a ∷ []) b
+laid_byte a h [] l = absurd (not-suc-le-zero l)
+laid_byte a zero (c ∷ b) l = sym (laid_zero (a ∷ []) (c ∷ b) ∙ filled_cons a c [] b ∙ ap (λ (l : List ℕ). a ∷ l) (filled_nil b))
+laid_byte a (suc h) (c ∷ b) l = ap (λ (l : List ℕ). c ∷ l) (laid_byte a h b (le_of_suc-le-suc l)) ∙ sym (laid_cons h c (a ∷ []) b)
 
--- what comes after a text that fills the buffer is left out
+-- as much is copied as there is room for
+laid_room : (x b : List ℕ) (h n : ℕ) → n ≡ min (length x) (length b - h) → laid h x b ≡ take h b ++ (take n x ++ drop (h + n) b)
+unfolding laid filled
+laid_room x b h n f =
+    let k : min (h + n) (length b) ≡ min (h + length x) (length b) = omega arith in
+    let d : drop (h + n) b ≡ drop (h + length x) b = sym (drop_min (h + n) b) ∙ ap (λ (i : ℕ). drop i b) k ∙ drop_min (h + length x) b in
+    let r : n ≡ min (length b - h) (length x) = omega arith in
+    rw (d, r, take_min, length-drop, drop-drop)
+
+-- ---- what comes after a text that fills the buffer is left out
 pub filled_full : (t x b : List ℕ) → length b ≤ length t → filled (t ++ x) b ≡ filled t b
 filled_full t x b l =
     sym (filled_more t x b) ∙ laid_full (min (length t) (length b)) x (filled t b) (omega (arith, length_filled t b))
@@ -112,34 +106,59 @@ take_filled t x b l =
     ∙ take-take (length t) (length b) (t ++ x) l
     ∙ take-append_seam t x
 
-laid_byte : (a h : ℕ) (b : List ℕ) → h < length b → set b h a ≡ laid h (a ∷ []) b
-laid_byte a h [] l = absurd (not-suc-le-zero l)
-laid_byte a zero (c ∷ b) l = sym (laid_zero (a ∷ []) (c ∷ b) ∙ filled_cons a c [] b ∙ ap (λ (l : List ℕ). a ∷ l) (filled_nil b))
-laid_byte a (suc h) (c ∷ b) l = ap (λ (l : List ℕ). c ∷ l) (laid_byte a h b (le_of_suc-le-suc l)) ∙ sym (laid_cons h c (a ∷ []) b)
+-- ---- texts: two puts, one after the other, are one of the two joined
+pub put_put : (x y : List ℕ) (t : Text) → put y (put x t) ≡ put (x ++ y) t
+unfolding put
+put_put x y t =
+    let b = t.buffer.now in
+    let h = t.held in
+    let more = min (length x) (length b - h) in
+    let long : length (laid h x b) ≡ length b = length_laid h x b in
+    let e : min (h + more) (length b) ≡ min (h + length x) (length b) = omega arith in
+    let l : laid (h + more) y (laid h x b) ≡ laid h (x ++ y) b =
+    sym (laid_min (h + more) y (laid h x b)) ∙ rw (long, e) (laid_then h x y b) in
+    let n : h + more + min (length y) (length b - (h + more)) ≡ h + min (length (x ++ y)) (length b - h) = omega (arith, length-append x y) in
+    rw (long, l, n)
 
--- what is copied: as much as there is room for, or all, or one byte
-module _ (b : List ℕ) (h : ℕ) (l : h < length b) where
-  part : (x : List ℕ) → length b - h < length x → paste b h x (length b - h) ≡ laid h x b
-  unfolding laid filled
-  part x k =
-      let e : drop (h + length x) b ≡ [] = drop_of_length-le b {i = h + length x} (omega arith) in
-      let f : drop (h + (length b - h)) b ≡ [] = drop_of_length-le b {i = h + (length b - h)} (omega arith) in
-      rw (length-drop h b, drop-drop (length x) h b, e, f) (append_assoc (take h b) (take (length b - h) x) [])
+-- nothing is put
+pub put_nothing : (t : Text) → put [] t ≡ t
+unfolding put
+put_nothing t = rw (laid_nothing t.held t.buffer.now, zero-min, add-zero)
 
-  pub puts_part : (x d : List ℕ) → d ≡ paste b h x (length b - h) → length b - h < length x → Puts x h (length d) b d
-  puts_part x d e k =
-      let f : d ≡ laid h x b = e ∙ part x k in
-      let m : length d ≡ length b = ap length f ∙ length_laid h x b in
-      record { buffer = f; count = omega arith }
+-- what is held then, and what the buffer has, which is the same buffer
+pub put_held : (x : List ℕ) (t : Text) → (put x t).held ≡ t.held + min (length x) (length t.buffer.now - t.held)
+unfolding put
+put_held x t = refl
 
-  all : (x : List ℕ) → length x ≤ length b - h → paste b h x (length x) ≡ laid h x b
-  unfolding laid filled
-  all x k =
-      rw (length-drop h b, drop-drop (length x) h b, take_all (length b - h) x k, take-length x)
-      (append_assoc (take h b) x (drop (h + length x) b))
+pub put_buffer : (x : List ℕ) (t : Text) → (put x t).buffer.now ≡ laid t.held x t.buffer.now
+unfolding put
+put_buffer x t = refl
 
-  pub puts_all : (x d : List ℕ) → d ≡ paste b h x (length x) → length x ≤ length b - h → Puts x h (h + length x) b d
-  puts_all x d e k = record { buffer = e ∙ all x k; count = omega arith }
+pub put_same : (x : List ℕ) (t : Text) → (put x t).buffer.ghost_name ≡ t.buffer.ghost_name
+unfolding put
+put_same x t = refl
 
-  pub puts_byte : (a : ℕ) → Puts (a ∷ []) h (h + 1) b (set b h a)
-  puts_byte a = record { buffer = laid_byte a h b l; count = omega arith }
+-- there is no room, or some
+pub put_full : (t : Text) (x : List ℕ) → min (length x) (length t.buffer.now - t.held) ≡ 0 → t ≡ put x t
+unfolding put
+put_full t x n =
+    let e : laid t.held x t.buffer.now ≡ t.buffer.now =
+    rw (laid_room x t.buffer.now t.held 0 (sym n), add-zero) (take-append-drop t.held t.buffer.now) in
+    rw (n, e, add-zero)
+
+pub put_byte : (t : Text) (a : ℕ) → t.held < length t.buffer.now
+    → record { buffer = set_vals (set t.buffer.now t.held a) t.buffer; held = t.held + 1 } ≡ put (a ∷ []) t
+unfolding put
+put_byte t a l =
+    let n : min 1 (length t.buffer.now - t.held) ≡ 1 = omega arith in
+    rw (← laid_byte a t.held t.buffer.now l, n)
+
+pub put_room : (t : Text) (x : List ℕ) (n : ℕ) (part : List ℕ) → n ≡ min (length x) (length t.buffer.now - t.held) → part ≡ take n x
+    → record { buffer = set_vals (put_mid t.held (t.held + n - t.held) t.buffer.now part) t.buffer; held = t.held + n } ≡ put x t
+unfolding put
+put_room t x n part g h =
+    let k : t.held + n - t.held ≡ n = omega arith in
+    rw (laid_room x t.buffer.now t.held n g, ← g, k, h, drop-drop)
+
+-- what a chain of puts comes to, and what it leaves behind its buffer
+pub ruleset puts = (put_put, put_nothing, put_buffer, put_same, put_held, append-nil, append_assoc)

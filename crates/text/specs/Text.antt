@@ -1,9 +1,11 @@
 -- Text as bytes, numbers in decimal, and text put into a buffer.
-use Rattle.std.specs.Prelude.{◌≡◌, List, [], ◌∷◌, ◌++◌, ℕ, zero, suc, ◌+◌, ◌/◌, ◌%◌, min, ltb, length, take, drop}
+use Rattle.std.specs.Prelude.{List, [], ◌∷◌, ◌++◌, ℕ, zero, suc, ◌+◌, ◌-◌, ◌/◌, ◌%◌, min, ltb, length, take, drop}
+use Rattle.std.specs.Borrow.{MutBor}
 use Prim.Native.Char.{code}
 use Prim.Native.String.{String}
 use Prim.Native.String.{[] as none, ◌∷◌ as then}
 use Rattle.base.specs.Pick.{pick}
+use Rattle.text.specs.declared.Text.{Text}
 
 -- the codes of the characters
 abbrev pub ascii : String → List ℕ
@@ -27,7 +29,17 @@ filled t b = take (length b) t ++ drop (length t) b
 unfoldable pub laid : ℕ → List ℕ → List ℕ → List ℕ
 laid held x b = take held b ++ filled x (drop held b)
 
--- x put into the buffer b, of which held bytes are held, gives the buffer c, of which r are held
-pub record Puts (x : List ℕ) (held r : ℕ) (b c : List ℕ) : Type 0 where
-  pub buffer : c ≡ laid held x b
-  pub count : r ≡ min (held + length x) (length b)
+-- the text in the buffer b, of which nothing is held
+abbrev pub begun : MutBor (List ℕ) → Text
+begun b = record { buffer = b; held = 0 }
+
+-- and the one of which so many bytes are held, all at most
+abbrev pub holding : MutBor (List ℕ) → ℕ → Text
+holding b held = record { buffer = b; held = min held (length b.now) }
+
+-- the text t with x put behind what it holds: the same buffer, with x laid over it from there; as much more is held as there is room for
+unfoldable pub put : List ℕ → Text → Text
+put x t = record {
+  buffer = record { ref_ptr = t.buffer.ref_ptr; ghost_name = t.buffer.ghost_name; now = laid t.held x t.buffer.now };
+  held = t.held + min (length x) (length t.buffer.now - t.held);
+}

@@ -11,10 +11,8 @@ use Rattle.text.specs.Text.{ascii}
 use Rattle.capture.specs.Refused.{listed}
 use Rattle.vcd_words.specs.Words.{words, alike, among}
 use Rattle.vcd_values.specs.Numbers.{time_of}
-use Rattle.vcd_values.specs.declared.numbers.Time.{Time}
-use Rattle.vcd_values.specs.declared.numbers.Time.TheVariants.{At}
-use Rattle.vcd_values.specs.declared.numbers.Time.TheVariants as time
-use Rattle.vcd_values.specs.Levels.{level, unknown, no_level}
+use Rattle.vcd_values.specs.Levels.{level, unknown}
+use Rattle.std.specs.Prelude.{Option, Some, None}
 use Rattle.vcd_values.proofs.ReadBack.{time_fits}
 use Rattle.vcd_declarations.specs.Declarations.{is_end}
 use Rattle.vcd_bus.specs.declared.Bus.{Bus}
@@ -23,7 +21,7 @@ use Rattle.vcd_simulation.specs.declared.body.Wanted.TheVariants as want
 use Rattle.vcd_simulation.specs.declared.body.Body.{Body}
 use Rattle.vcd_bus.specs.Signals.{takes, shifted, byte_events, reset_events}
 use Rattle.vcd_simulation.specs.Coded.{after_code, code_makes}
-use Rattle.vcd_simulation.specs.Simulation.{Codes, Went, changes, is_code, code_word, next_of, apart_level, value_word, timed, key_word, command_word, word_by, word_done, words_done}
+use Rattle.vcd_simulation.specs.Simulation.{Codes, Went, changes, is_code, code_word, next_of, joined, apart_level, apart, value_word, timed, key_word, command_word, word_by, word_done, words_done}
 use Rattle.vcd_simulation.proofs.Making.{two_make}
 use Rattle.vcd.proofs.Calls.{AllFit, fit_join}
 
@@ -77,16 +75,22 @@ module _ (codes : Codes) where
   word_fit : (next : Wanted) (code : List ℕ) (v : ℕ) (b : Body) → b.now < limit → Well (code_word codes next code v b)
   word_fit next code v b h = both Well (is_code code) (changes_fit next code v b h) (h, AllFit.no_event)
 
+  apart_fit : (section : Bool) (v : Option ℕ) (b : Body) → b.now < limit → Well (apart section v b)
+  apart_fit section (Some v) b h = (h, AllFit.no_event)
+  apart_fit section None b h = (h, AllFit.no_event)
+
+  joined_fit : (section : Bool) (c : ℕ) (w : List ℕ) (b : Body) (v : Option ℕ) → b.now < limit → Well (joined codes section c w b v)
+  joined_fit section c w b (Some v) h = word_fit (next_of section) w v b h
+  joined_fit section c w b None h = apart_fit section (apart_level c w) b h
+
   value_fit : (section : Bool) (w : List ℕ) (b : Body) → b.now < limit → Well (value_word codes section w b)
   unfolding value_word
   value_fit section [] b h = (h, AllFit.no_event)
-  value_fit section (c ∷ w) b h =
-      both Well (ltb (level c) no_level) (word_fit (next_of section) w (level c) b h)
-      (both Well (eqb (apart_level c w) no_level) (h, AllFit.no_event) (h, AllFit.no_event))
+  value_fit section (c ∷ w) b h = joined_fit section c w b (level c) h
 
-  timed_fit : (t : Time) (b : Body) → ((n : ℕ) → t ≡ At n → n < limit) → b.now < limit → Well (timed t b)
-  timed_fit time.Broken b f h = (h, AllFit.no_event)
-  timed_fit (At n) b f h = both Well (ltb n b.now) (h, AllFit.no_event) (f n refl, AllFit.no_event)
+  timed_fit : (t : Option ℕ) (b : Body) → ((n : ℕ) → t ≡ Some n → n < limit) → b.now < limit → Well (timed t b)
+  timed_fit None b f h = (h, AllFit.no_event)
+  timed_fit (Some n) b f h = both Well (ltb n b.now) (h, AllFit.no_event) (f n refl, AllFit.no_event)
 
   command_fit : (w : List ℕ) (b : Body) → b.now < limit → Well (command_word codes w b)
   unfolding command_word key_word

@@ -1,5 +1,5 @@
 -- 2026-01: what a dump comes to: its events, and what turns it back.
-use Rattle.std.specs.Prelude.{Bool, ◌||◌, not, List, [], ◌∷◌, ◌++◌, ℕ, eqb, length}
+use Rattle.std.specs.Prelude.{Bool, ◌||◌, not, List, [], ◌∷◌, ◌++◌, ℕ, eqb, length, Result, Ok, Err}
 use Rattle.base.specs.Pick.{pick}
 use Rattle.capture.specs.Layout.{config_of}
 use Rattle.capture.specs.Refused.{bad_config}
@@ -8,8 +8,8 @@ use Rattle.controller.specs.World.{Buffers}
 use Rattle.controller.specs.TurnedBack.{making_refused}
 use Rattle.event.specs.declared.Event.{Event}
 use Rattle.vcd_words.specs.Words.{words}
-use Rattle.vcd.specs.declared.judging.Judged.{Judged}
-use Rattle.vcd.specs.declared.judging.Judged.TheVariants as judge
+use Rattle.vcd.specs.declared.judging.Fault.{Fault}
+use Rattle.vcd.specs.declared.judging.Fault.TheVariants.{Malformed, Unsignalled}
 use Rattle.vcd_declarations.specs.Declarations.{Head, cut, head_of, any_none}
 use Rattle.vcd_simulation.specs.Simulation.{Codes, Went, begun, words_done, is_over}
 
@@ -54,5 +54,5 @@ dump_refused config dump b =
     8
 
 -- 11 comes before 12
-unfoldable pub judged : List ℕ → Judged
-judged dump = pick (malformed dump) judge.Malformed (pick (unsignalled dump) judge.Unsignalled judge.Fine)
+unfoldable pub judged : List ℕ → Result (Unit {0}) Fault
+judged dump = pick (malformed dump) (Err Malformed) (pick (unsignalled dump) (Err Unsignalled) (Ok tt))

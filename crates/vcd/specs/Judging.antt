@@ -1,5 +1,5 @@
 -- A dump by what reading it gives: its declarations by places, and the body after its words.
-use Rattle.std.specs.Prelude.{Bool, ◌||◌, not, List, ℕ, eqb, drop}
+use Rattle.std.specs.Prelude.{Bool, ◌||◌, not, List, ℕ, eqb, drop, Result, Ok, Err}
 use Rattle.base.specs.Pick.{pick}
 use Rattle.vcd_words.specs.Words.{words}
 use Rattle.vcd_words.specs.declared.Span.{Span}
@@ -9,8 +9,8 @@ use Rattle.vcd_declarations.specs.declared.head.Begun.{Begun}
 use Rattle.vcd_simulation.specs.declared.body.Body.{Body}
 use Rattle.vcd_simulation.specs.Simulation.{begun, words_done, is_over}
 use Rattle.vcd_simulation.specs.Feed.{codes_by}
-use Rattle.vcd.specs.declared.judging.Judged.{Judged}
-use Rattle.vcd.specs.declared.judging.Judged.TheVariants as judge
+use Rattle.vcd.specs.declared.judging.Fault.{Fault}
+use Rattle.vcd.specs.declared.judging.Fault.TheVariants.{Malformed, Unsignalled}
 
 unfoldable pub body_after : List ℕ → Head → ℕ → Body
 body_after dump h at = (words_done (codes_by dump h) (words (drop at dump)) begun).body
@@ -28,5 +28,5 @@ abbrev pub unsignalled_by : Head → Bool
 unsignalled_by h = h.bad || any_none h.codes
 
 -- 11 comes before 12
-unfoldable pub judged_by : Begun → Body → Judged
-judged_by b body = pick (malformed_by b body) judge.Malformed (pick (unsignalled_by b.head) judge.Unsignalled judge.Fine)
+unfoldable pub judged_by : Begun → Body → Result (Unit {0}) Fault
+judged_by b body = pick (malformed_by b body) (Err Malformed) (pick (unsignalled_by b.head) (Err Unsignalled) (Ok tt))

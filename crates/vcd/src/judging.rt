@@ -5,12 +5,10 @@ ghost use Rattle.vcd.specs.Judging as by;
 
 use vcd_declarations::{Begun, Codes, Head, declarations};
 use vcd_simulation::{Body, begun, feed, is_over};
-use vcd_words::Span;
 
+// What turns a dump back.
 #[derive(Clone, Copy)]
-pub enum Judged {
-    // Neither.
-    Fine,
+pub enum Fault {
     Malformed,
     Unsignalled,
 }
@@ -28,6 +26,7 @@ fn simulate(dump: &[u8], h: Head, at: usize) -> Body
     let mut out = [0u8; ROOM];
     let mut body = begun();
     let mut next = at;
+    // A step is as many words as the buffer has room for: no plainer by an iterator.
     while next < dump.len() {
         let f = feed(dump, h, dump, next, true, body, &mut out);
         body = f.body;
@@ -39,79 +38,45 @@ fn simulate(dump: &[u8], h: Head, at: usize) -> Body
     body
 }
 
-fn is_none(s: Span) -> bool
-    ensures { result ≡ by.is_none s }
-{
-    s.from == s.to
-}
-
 // One of the five has no code.
 fn any_none(c: Codes) -> bool
     ensures { result ≡ by.any_none c }
 {
-    if is_none(c.cs) {
-        return true;
-    }
-    if is_none(c.dc) {
-        return true;
-    }
-    if is_none(c.clk) {
-        return true;
-    }
-    if is_none(c.mosi) {
-        return true;
-    }
-    is_none(c.rst)
+    c.cs.is_empty() || c.dc.is_empty() || c.clk.is_empty() || c.mosi.is_empty() || c.rst.is_empty()
 }
 
 // A break of the syntax.
 fn is_malformed(b: Begun, body: Body) -> bool
     ensures { result ≡ by.malformed_by b body }
 {
-    let h = b.head;
-    if h.broken {
-        return true;
-    }
-    if !h.scaled {
-        return true;
-    }
-    if !b.ended {
-        return true;
-    }
-    !is_over(body)
+    b.head.broken || !b.head.scaled || !b.ended || !is_over(body)
 }
 
 fn is_unsignalled(h: Head) -> bool
     ensures { result ≡ by.unsignalled_by h }
 {
-    if h.bad {
-        return true;
-    }
-    let codes = h.codes;
-    any_none(codes)
+    h.bad || any_none(h.codes)
 }
 
 // What turns a dump back, by what its declarations say and the body after its last word.
-pub fn verdict(b: Begun, body: Body) -> Judged
+#[tactic(auto, unfolding(crate::specs::Judging::judged_by))]
+pub fn verdict(b: Begun, body: Body) -> Result<(), Fault>
     ensures { result ≡ by.judged_by b body }
 {
     if is_malformed(b, body) {
-        return Judged::Malformed;
+        return Err(Fault::Malformed);
     }
-    let h = b.head;
-    if is_unsignalled(h) {
-        return Judged::Unsignalled;
+    if is_unsignalled(b.head) {
+        return Err(Fault::Unsignalled);
     }
-    Judged::Fine
+    Ok(())
 }
 
 // What turns a dump back, if anything does.
-pub fn judge(dump: &[u8]) -> Judged
+pub fn judge(dump: &[u8]) -> Result<(), Fault>
     ensures { result ≡ rule.judged dump.now }
 {
     let b = declarations(dump);
-    let h = b.head;
-    let at = b.next;
-    let body = simulate(dump, h, at);
+    let body = simulate(dump, b.head, b.next);
     verdict(b, body)
 }

@@ -3,4 +3,4 @@
 
 mod judging;
 
-pub use judging::{Judged, judge, verdict};
+pub use judging::{Fault, judge, verdict};

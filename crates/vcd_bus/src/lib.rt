@@ -5,6 +5,7 @@ ghost use Rattle.std.specs.Prelude.{◌≡◌};
 ghost use Rattle.base.specs.Pick.{pick};
 ghost use Rattle.vcd_bus.specs.Signals as rule;
 
+// The levels are numbers, 0 and 1: what may not change, as callers of `takes` hand any in.
 #[derive(Clone, Copy)]
 pub struct Bus {
     pub cs: u8,
@@ -35,104 +36,65 @@ pub fn quiet() -> Bus
 fn rises(before: u8, after: u8) -> bool
     ensures { result ≡ rule.rises before after }
 {
-    if before != 0 {
-        return false;
-    }
-    after == 1
+    before == 0 && after == 1
 }
 
 // `cs` takes a level, where the change is one of it.
 pub fn on_cs(b: Bus, hit: bool, v: u8) -> Bus
     ensures { result ≡ pick hit (rule.selected v b) b }
 {
-    if hit {
-        return selected(b, v);
-    }
-    b
+    if hit { selected(b, v) } else { b }
 }
 
 fn selected(b: Bus, v: u8) -> Bus
     ensures { result ≡ rule.selected v b }
 {
     let bits = if rises(b.cs, v) { 0 } else { b.bits };
-    Bus {
-        cs: v,
-        dc: b.dc,
-        clk: b.clk,
-        mosi: b.mosi,
-        rst: b.rst,
-        bits,
-        byte: b.byte,
-    }
+    Bus { cs: v, bits, ..b }
 }
 
 pub fn on_dc(b: Bus, hit: bool, v: u8) -> Bus
     ensures { result ≡ pick hit (rule.data_or v b) b }
 {
-    if hit {
-        return with_dc(b, v);
-    }
-    b
+    if hit { with_dc(b, v) } else { b }
 }
 
 fn with_dc(b: Bus, v: u8) -> Bus
     ensures { result ≡ rule.data_or v b }
 {
-    Bus {
-        cs: b.cs,
-        dc: v,
-        clk: b.clk,
-        mosi: b.mosi,
-        rst: b.rst,
-        bits: b.bits,
-        byte: b.byte,
-    }
+    Bus { dc: v, ..b }
 }
 
 pub fn on_mosi(b: Bus, hit: bool, v: u8) -> Bus
     ensures { result ≡ pick hit (rule.sent v b) b }
 {
-    if hit {
-        return with_mosi(b, v);
-    }
-    b
+    if hit { with_mosi(b, v) } else { b }
 }
 
 fn with_mosi(b: Bus, v: u8) -> Bus
     ensures { result ≡ rule.sent v b }
 {
-    Bus {
-        cs: b.cs,
-        dc: b.dc,
-        clk: b.clk,
-        mosi: v,
-        rst: b.rst,
-        bits: b.bits,
-        byte: b.byte,
-    }
+    Bus { mosi: v, ..b }
 }
 
 // Whether a level of `clk` takes a bit.
 pub fn takes(b: Bus, v: u8) -> bool
     ensures { result ≡ rule.takes v b }
 {
-    if rises(b.clk, v) {
-        return b.cs == 0;
-    }
-    false
+    rises(b.clk, v) && b.cs == 0
 }
 
 // The last eight bits with one more.
 pub fn shifted(b: Bus) -> u8
     ensures { result ≡ rule.shifted b }
 {
-    ((2 * (b.byte as u16) + b.mosi as u16) % 256) as u8
+    ((2 * u16::from(b.byte) + u16::from(b.mosi)) % 256) as u8
 }
 
 fn one_more(bits: u8) -> u8
     ensures { result ≡ rule.counted bits }
 {
-    ((bits as u16 + 1) % 8) as u8
+    ((u16::from(bits) + 1) % 8) as u8
 }
 
 // `clk` takes a level.
@@ -140,24 +102,14 @@ pub fn clocked(b: Bus, v: u8) -> Bus
     ensures { result ≡ rule.clocked v b }
 {
     if takes(b, v) {
-        return Bus {
-            cs: b.cs,
-            dc: b.dc,
+        Bus {
             clk: v,
-            mosi: b.mosi,
-            rst: b.rst,
             bits: one_more(b.bits),
             byte: shifted(b),
-        };
-    }
-    Bus {
-        cs: b.cs,
-        dc: b.dc,
-        clk: v,
-        mosi: b.mosi,
-        rst: b.rst,
-        bits: b.bits,
-        byte: b.byte,
+            ..b
+        }
+    } else {
+        Bus { clk: v, ..b }
     }
 }
 
@@ -165,13 +117,5 @@ pub fn clocked(b: Bus, v: u8) -> Bus
 pub fn reset(b: Bus, v: u8) -> Bus
     ensures { result ≡ rule.reset v b }
 {
-    Bus {
-        cs: b.cs,
-        dc: b.dc,
-        clk: b.clk,
-        mosi: b.mosi,
-        rst: v,
-        bits: b.bits,
-        byte: b.byte,
-    }
+    Bus { rst: v, ..b }
 }

@@ -7,7 +7,9 @@ use native.Mathlib.Omega.{arith}
 use borrow.Author.Tests.{eq-eqb, ne_eqb, eqb-true, eqb-false}
 use lib.Dec.{eqb}
 use lib.ListN.{length, get_or, set, take, drop, length-take, length-drop}
-use lib.Seq.{take-take, drop-drop}
+use mathlib.Core.List.{map}
+use Rattle.std.proofs.lemmas.List.{map-append}
+use lib.Seq.{take-take, drop-drop, take_all, take-suc, length-take-le}
 use Rattle.base.specs.Pick.{pick}
 use Rattle.base.proofs.Cases.{by_cases}
 use Rattle.vcd_words.specs.Words.{alike, among}
@@ -16,17 +18,10 @@ use Rattle.vcd_words.specs.declared.Span.{Span}
 use Rattle.vcd_declarations.specs.declared.codes.Codes.{Codes}
 use Rattle.vcd_declarations.specs.declared.codes.Further.{Further}
 use Rattle.vcd_declarations.specs.declared.head.Head as place
-use Rattle.vcd_declarations.specs.Codes.{code_in, five_in, placed_in, Within, AllWithin, FurtherWithin}
-use Rattle.vcd_declarations.specs.Declarations.{Head, blank, holding, scale, declare, is_nano}
-use Rattle.vcd_declarations.specs.InnerHead.{Tells, nowhere, blank_head, holding_head, scale_head, place_of, with_place, moved, shifted, added, declare_head}
+use Rattle.vcd_declarations.specs.Codes.{code_in, five_in, further_in, placed_in, Within, AllWithin, EachWithin, FurtherWithin}
+use Rattle.vcd_declarations.specs.Declarations.{Head, blank, holding, declare}
+use Rattle.vcd_declarations.specs.InnerHead.{Tells, nowhere, blank_head, holding_head, place_of, with_place, moved, last_of, shifted, added, declare_head}
 use Rattle.vcd_declarations.proofs.PlacedLaws.{or_none, not_none, alike_is, put_in, put_before, none_last}
-
-pub above_three : (n : ℕ) → (n ≡ 0 → ⊥) → (n ≡ 1 → ⊥) → (n ≡ 2 → ⊥) → (n ≡ 3 → ⊥) → 3 < n
-above_three zero a b c d = absurd (a refl)
-above_three (suc zero) a b c d = absurd (b refl)
-above_three (suc (suc zero)) a b c d = absurd (c refl)
-above_three (suc (suc (suc zero))) a b c d = absurd (d refl)
-above_three (suc (suc (suc (suc n)))) a b c d = omega arith
 
 -- ---- before the first declaration
 at_start : (n : ℕ) → Within nowhere n
@@ -40,17 +35,12 @@ blank_tells bytes = record {
   codes_are = refl;
   codes_in_lem = let w = at_start (length bytes) in record { cs_in = w; dc_in = w; clk_in = w; mosi_in = w; rst_in = w };
   all_are = λ f code n. rw n;
-  further_in_lem = let w = at_start (length bytes) in record {
-    first_in = w;
-    second_in = w;
-    third_in = w;
-    fourth_in = w;
-    fifth_in = w;
-    sixth_in = w;
-    seventh_in = w;
-    eighth_in = w;
-  };
+  further_in_lem = let w = at_start (length bytes) in record { eight = refl; each_in = (w, (w, (w, (w, (w, (w, (w, (w, tt)))))))) };
 }
+
+or_false : (b : Bool) → (b || false) ≡ b
+or_false true = refl
+or_false false = refl
 
 module _ (bytes : List ℕ) (h : place.Head) (s : Head) (t : Tells bytes h s) where
   pub holding_tells : (right : Bool) → Tells bytes (holding_head right h) (holding right s)
@@ -64,10 +54,10 @@ module _ (bytes : List ℕ) (h : place.Head) (s : Head) (t : Tells bytes h s) wh
     further_in_lem = t.further_in_lem;
   }
 
-  pub scale_tells : (ws : List (List ℕ)) → Tells bytes (scale_head (is_nano ws) h) (scale ws s)
-  scale_tells ws = record {
-    broken_is = ap (λ (b : Bool). b || not (is_nano ws)) t.broken_is;
-    scaled_is = refl;
+  pub passed_tells : Tells bytes h (holding true s)
+  passed_tells = record {
+    broken_is = t.broken_is ∙ sym (or_false s.broken);
+    scaled_is = t.scaled_is;
     bad_is = t.bad_is;
     codes_are = t.codes_are;
     codes_in_lem = t.codes_in_lem;
@@ -120,10 +110,6 @@ empty_is bytes p w =
     (λ e. ne_eqb (p.to - p.from) 0 (λ z. eqb-false p.from p.to e (omega (arith, z, w.ordered))) ∙ sym e)
 
 -- ---- one of the five
-or_false : (b : Bool) → (b || false) ≡ b
-or_false true = refl
-or_false false = refl
-
 or-true : (b : Bool) → (b || true) ≡ true
 or-true true = refl
 or-true false = refl
@@ -137,16 +123,24 @@ placed_with : (bytes : List ℕ) (c : Codes) (f : Further) (p : Span) (n : ℕ) 
 placed_with bytes c f p n h =
     below_five (λ k. placed_in bytes (with_place c k p) f ≡ set (placed_in bytes c f) k (code_in bytes p)) refl refl refl refl refl n h
 
+-- the first places, and the last of eight
+first_in : (l : List Span) (k size : ℕ) → EachWithin l size → EachWithin (take k l) size
+first_in l zero size a = tt
+first_in [] (suc k) size a = tt
+first_in (s ∷ l) (suc k) size a = (a.0, first_in l k size a.1)
+
+nth_in : (l : List Span) (i size : ℕ) → i < length l → EachWithin l size → Within (get_or l i nowhere) size
+nth_in [] i size h a = absurd (omega (arith, h))
+nth_in (s ∷ l) zero size h a = a.0
+nth_in (s ∷ l) (suc i) size h a = nth_in l i size (omega (arith, h)) a.1
+
+seven_last : (l : List Span) → length l ≡ 8 → l ≡ take 7 l ++ (get_or l 7 nowhere ∷ [])
+seven_last l e = sym (take_all 8 l (omega (arith, e))) ∙ take-suc l 7 nowhere (omega (arith, e))
+
 shifted_in : (f : Further) (p : Span) (size : ℕ) → FurtherWithin f size → Within p size → FurtherWithin (shifted f p) size
 shifted_in f p size a w = record {
-  first_in = w;
-  second_in = a.first_in;
-  third_in = a.second_in;
-  fourth_in = a.third_in;
-  fifth_in = a.fourth_in;
-  sixth_in = a.fifth_in;
-  seventh_in = a.sixth_in;
-  eighth_in = a.seventh_in;
+  eight = ap suc (length-take-le 7 f.codes (omega (arith, a.eight)));
+  each_in = (w, first_in f.codes 7 size a.each_in);
 }
 
 module _ (bytes : List ℕ) (h : place.Head) (s : Head) (t : Tells bytes h s) (p : Span) (w : Within p (length bytes)) where
@@ -165,7 +159,10 @@ module _ (bytes : List ℕ) (h : place.Head) (s : Head) (t : Tells bytes h s) (p
 
   -- another one
   abbrev seven : List (List ℕ)
-  seven = code_in bytes h.further.first ∷ code_in bytes h.further.second ∷ code_in bytes h.further.third ∷ code_in bytes h.further.fourth ∷ code_in bytes h.further.fifth ∷ code_in bytes h.further.sixth ∷ code_in bytes h.further.seventh ∷ []
+  seven = map (code_in bytes) (take 7 h.further.codes)
+
+  with_last : further_in bytes h.further ≡ seven ++ (code_in bytes (last_of h.further) ∷ [])
+  with_last = ap (map (code_in bytes)) (seven_last h.further.codes t.further_in_lem.eight) ∙ map-append (code_in bytes) (take 7 h.further.codes) (last_of h.further ∷ [])
 
   added_all : (placed : Bool) → placed ≡ among (placed_in bytes h.codes h.further) (code_in bytes p) → (added h.further placed p).full ≡ false
       → Placed (placed_in bytes h.codes (added h.further placed p))
@@ -174,12 +171,14 @@ module _ (bytes : List ℕ) (h : place.Head) (s : Head) (t : Tells bytes h s) (p
       (λ a. rw a (ap (among (placed_in bytes h.codes h.further)) (alike_is code (code_in bytes p) a) ∙ sym e))
       (λ a. rw a (t.all_are full code n))
   added_all false e full code n =
-      let last = h.further.eighth in
+      let last = last_of h.further in
       let parts = or_none h.further.full (not (eqb last.from last.to)) full in
-      let empty = empty_is bytes last t.further_in_lem.eighth_in ∙ not_none (eqb last.from last.to) parts.1 in
+      let empty = empty_is bytes last (nth_in h.further.codes 7 (length bytes) (omega (arith, t.further_in_lem.eight)) t.further_in_lem.each_in) ∙ not_none (eqb last.from last.to) parts.1 in
       put_before (five_in bytes h.codes) seven (code_in bytes p) code
       ∙ ap (pick (alike code (code_in bytes p)) true)
-      (sym (none_last (five_in bytes h.codes ++ seven) (code_in bytes last) code empty n) ∙ t.all_are parts.0 code n)
+      (sym (none_last (five_in bytes h.codes ++ seven) (code_in bytes last) code empty n)
+      ∙ ap (λ (l : List (List ℕ)). among (five_in bytes h.codes ++ l) code) (sym with_last)
+      ∙ t.all_are parts.0 code n)
 
   added_in : (placed : Bool) → FurtherWithin (added h.further placed p) (length bytes)
   added_in true = t.further_in_lem

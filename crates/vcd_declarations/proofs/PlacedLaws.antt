@@ -7,6 +7,9 @@ use native.Mathlib.Omega.{arith}
 use borrow.Author.Tests.{eqb-true}
 use lib.Dec.{eqb}
 use lib.ListN.{length, get_or, set}
+use mathlib.Core.List.{map}
+use Rattle.std.specs.List.{list_any}
+use Rattle.vcd_words.specs.declared.Span.{Span}
 use Rattle.base.specs.Pick.{pick}
 use Rattle.base.proofs.Cases.{by_cases}
 use Rattle.vcd_words.specs.Words.{alike, among}
@@ -60,3 +63,12 @@ pub among_join : (l k : List (List ℕ)) (code : List ℕ) → among (l ++ k) co
 among_join [] k code = refl
 among_join (v ∷ l) k code =
     by_cases (alike code v) (λ e. rw e) (λ e. rw e (among_join l k code))
+
+-- the codes at some places
+pub among_map : (f : Span → List ℕ) (l : List Span) (code : List ℕ) → among (map f l) code ≡ list_any (λ s. alike code (f s)) l
+among_map f [] code = refl
+among_map f (s ∷ l) code = by_cases (alike code (f s)) (λ e. rw e) (λ e. rw e (among_map f l code))
+
+pub placed_is : (k : List (List ℕ)) (f : Span → List ℕ) (l : List Span) (code : List ℕ)
+    → among (k ++ map f l) code ≡ pick (among k code) true (list_any (λ s. alike code (f s)) l)
+placed_is k f l code = among_join k (map f l) code ∙ ap (pick (among k code) true) (among_map f l code)

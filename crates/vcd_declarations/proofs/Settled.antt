@@ -2,7 +2,7 @@
 -- words that are closed stay as they are, and the declarations are over among these.
 use mathlib.Core.Path.{◌≡◌, refl, sym, ap, ◌∙◌}
 use mathlib.Core.Bool.{Bool, true, false}
-use mathlib.Core.List.{List, [], ◌∷◌, ◌++◌}
+use mathlib.Core.List.{List, [], ◌∷◌, ◌++◌, map}
 use Prim.Native.Nat.{ℕ, ◌-◌, ◌≤◌, ◌<◌}
 use native.Mathlib.Omega.{arith}
 use lib.ListN.{length, take, drop, length-append, length-drop, take-append-drop}
@@ -15,7 +15,7 @@ use Rattle.vcd_words.proofs.Cutting.{words_cut, opened_late}
 use Rattle.vcd_declarations.specs.declared.codes.Codes.{Codes}
 use Rattle.vcd_declarations.specs.declared.codes.Further.{Further}
 use Rattle.vcd_declarations.specs.declared.head.Begun.{Begun}
-use Rattle.vcd_declarations.specs.Codes.{code_in, five_in, further_in, placed_in, Within, AllWithin, FurtherWithin}
+use Rattle.vcd_declarations.specs.Codes.{code_in, five_in, further_in, placed_in, Within, AllWithin, EachWithin, FurtherWithin}
 use Rattle.vcd_declarations.specs.Declarations.{Head, Cut, keyword_of, begins, is_last, is_end, one_more, cut_from, cut, blank, declared_from, head_of}
 use Rattle.vcd_declarations.specs.Begun.{all_by, Begins}
 use Rattle.vcd_declarations.proofs.EndLaws.{cancel}
@@ -37,18 +37,12 @@ settled_five h more c a =
       code_more h more c.rst a.rst_in,
     )
 
+settled_each : (h more : List ℕ) (l : List Span) → EachWithin l (length h) → map (code_in (h ++ more)) l ≡ map (code_in h) l
+settled_each h more [] a = refl
+settled_each h more (s ∷ l) a = rw (code_more h more s a.0, settled_each h more l a.1)
+
 settled_further : (h more : List ℕ) (f : Further) → FurtherWithin f (length h) → further_in (h ++ more) f ≡ further_in h f
-settled_further h more f a =
-    rw (
-      code_more h more f.first a.first_in,
-      code_more h more f.second a.second_in,
-      code_more h more f.third a.third_in,
-      code_more h more f.fourth a.fourth_in,
-      code_more h more f.fifth a.fifth_in,
-      code_more h more f.sixth a.sixth_in,
-      code_more h more f.seventh a.seventh_in,
-      code_more h more f.eighth a.eighth_in,
-    )
+settled_further h more f a = settled_each h more f.codes a.each_in
 
 wider : (h more : List ℕ) (s : Span) → Within s (length h) → Within s (length (h ++ more))
 wider h more s w = record { ordered = w.ordered; inside = omega (arith, w.inside, length-append h more) }
@@ -62,17 +56,12 @@ all_more h more c a = record {
   rst_in = wider h more c.rst a.rst_in;
 }
 
+each_more : (h more : List ℕ) (l : List Span) → EachWithin l (length h) → EachWithin l (length (h ++ more))
+each_more h more [] a = tt
+each_more h more (s ∷ l) a = (wider h more s a.0, each_more h more l a.1)
+
 further_more : (h more : List ℕ) (f : Further) → FurtherWithin f (length h) → FurtherWithin f (length (h ++ more))
-further_more h more f a = record {
-  first_in = wider h more f.first a.first_in;
-  second_in = wider h more f.second a.second_in;
-  third_in = wider h more f.third a.third_in;
-  fourth_in = wider h more f.fourth a.fourth_in;
-  fifth_in = wider h more f.fifth a.fifth_in;
-  sixth_in = wider h more f.sixth a.sixth_in;
-  seventh_in = wider h more f.seventh a.seventh_in;
-  eighth_in = wider h more f.eighth a.eighth_in;
-}
+further_more h more f a = record { eight = a.eight; each_in = each_more h more f.codes a.each_in }
 
 -- ---- no more words are left than there were
 rest_most : (d ws : List (List ℕ)) → length (cut_from d ws).rest ≤ length ws

@@ -1,5 +1,5 @@
 -- The codes of the five signals, by their places in some bytes.
-use Rattle.std.specs.Prelude.{List, [], ◌∷◌, ◌++◌, ℕ, ◌≤◌}
+use Rattle.std.specs.Prelude.{◌≡◌, List, [], ◌∷◌, ◌++◌, ℕ, ◌≤◌, length, map}
 use Rattle.vcd_words.specs.declared.Span.{Span}
 use Rattle.vcd_words.specs.Places.{part}
 use Rattle.vcd_declarations.specs.declared.codes.Codes.{Codes}
@@ -13,9 +13,7 @@ five_in bytes c =
     code_in bytes c.cs ∷ code_in bytes c.dc ∷ code_in bytes c.clk ∷ code_in bytes c.mosi ∷ code_in bytes c.rst ∷ []
 
 abbrev pub further_in : List ℕ → Further → List (List ℕ)
-further_in bytes f =
-    code_in bytes f.first ∷ code_in bytes f.second ∷ code_in bytes f.third ∷ code_in bytes f.fourth
-    ∷ code_in bytes f.fifth ∷ code_in bytes f.sixth ∷ code_in bytes f.seventh ∷ code_in bytes f.eighth ∷ []
+further_in bytes f = map (code_in bytes) f.codes
 
 -- the first codes of the five, and the others
 abbrev pub placed_in : List ℕ → Codes → Further → List (List ℕ)
@@ -33,12 +31,11 @@ pub record AllWithin (c : Codes) (size : ℕ) : Type 0 where
   pub mosi_in : Within c.mosi size
   pub rst_in : Within c.rst size
 
+abbrev pub EachWithin : List Span → ℕ → Type 0
+EachWithin [] size = Unit {0}
+EachWithin (s ∷ places) size = Within s size × EachWithin places size
+
+-- eight places
 pub record FurtherWithin (f : Further) (size : ℕ) : Type 0 where
-  pub first_in : Within f.first size
-  pub second_in : Within f.second size
-  pub third_in : Within f.third size
-  pub fourth_in : Within f.fourth size
-  pub fifth_in : Within f.fifth size
-  pub sixth_in : Within f.sixth size
-  pub seventh_in : Within f.seventh size
-  pub eighth_in : Within f.eighth size
+  pub eight : length f.codes ≡ 8
+  pub each_in : EachWithin f.codes size

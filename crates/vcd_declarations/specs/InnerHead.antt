@@ -1,5 +1,5 @@
 -- What the declarations say, by places in the bytes of a dump.
-use Rattle.std.specs.Prelude.{◌≡◌, Bool, true, false, ◌||◌, not, List, [], ℕ, ◌+◌, eqb, ltb, length, drop}
+use Rattle.std.specs.Prelude.{◌≡◌, Bool, true, false, ◌||◌, not, List, [], ◌∷◌, ℕ, ◌+◌, eqb, ltb, length, take, drop, get_or, replicate}
 use Rattle.base.specs.Pick.{pick}
 use Rattle.vcd_words.specs.Words.{alike, among}
 use Rattle.vcd_words.specs.Places.{front, is_solid}
@@ -30,17 +30,7 @@ blank_head = record {
   scaled = false;
   bad = false;
   codes = record { cs = nowhere; dc = nowhere; clk = nowhere; mosi = nowhere; rst = nowhere };
-  further = record {
-    first = nowhere;
-    second = nowhere;
-    third = nowhere;
-    fourth = nowhere;
-    fifth = nowhere;
-    sixth = nowhere;
-    seventh = nowhere;
-    eighth = nowhere;
-    full = false;
-  };
+  further = record { codes = replicate 8 nowhere; full = false };
 }
 
 abbrev pub holding_head : Bool → place.Head → place.Head
@@ -70,18 +60,11 @@ abbrev pub moved : ℕ → Span → Span
 moved n s = record { from = n + s.from; to = n + s.to }
 
 -- one code more; the last place is lost
+abbrev pub last_of : Further → Span
+last_of f = get_or f.codes 7 nowhere
+
 abbrev pub shifted : Further → Span → Further
-shifted f s = record {
-  first = s;
-  second = f.first;
-  third = f.second;
-  fourth = f.third;
-  fifth = f.fourth;
-  sixth = f.fifth;
-  seventh = f.sixth;
-  eighth = f.seventh;
-  full = f.full || not (eqb f.eighth.from f.eighth.to);
-}
+shifted f s = record { codes = s ∷ take 7 f.codes; full = f.full || not (eqb (last_of f).from (last_of f).to) }
 
 abbrev pub added : Further → Bool → Span → Further
 added f placed s = pick placed f (shifted f s)

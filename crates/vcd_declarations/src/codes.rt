@@ -1,5 +1,6 @@
 // The codes of the five signals, by their places in some bytes.
 ghost use Rattle.std.specs.Prelude.{◌≡◌};
+ghost use Rattle.std.specs.List.{list_any};
 ghost use Rattle.vcd_words.specs.Words.{alike, among};
 ghost use Rattle.vcd_declarations.specs.Codes as rule;
 
@@ -18,14 +19,7 @@ pub struct Codes {
 // Codes that one of the five was declared with again, each of them once; the last one first.
 #[derive(Clone, Copy)]
 pub struct Further {
-    pub first: Span,
-    pub second: Span,
-    pub third: Span,
-    pub fourth: Span,
-    pub fifth: Span,
-    pub sixth: Span,
-    pub seventh: Span,
-    pub eighth: Span,
+    pub codes: [Span; 8],
     // There were more than eight.
     pub full: bool,
 }
@@ -34,22 +28,16 @@ pub struct Further {
 fn code_in(bytes: &[u8], place: Span) -> &[u8]
     ensures { result.now ≡ rule.code_in bytes.now place }
 {
-    let from = place.from;
-    let to = place.to;
-    if to <= from {
-        return &bytes[..0];
+    let to = place.to.min(bytes.len());
+    if place.from < to {
+        &bytes[place.from..to]
+    } else {
+        &[]
     }
-    if to <= bytes.len() {
-        return &bytes[from..to];
-    }
-    if from <= bytes.len() {
-        return &bytes[from..];
-    }
-    &bytes[..0]
 }
 
 // The code is the one at that place.
-pub(crate) fn is_code(bytes: &[u8], place: Span, code: &[u8]) -> bool
+pub fn is_code(bytes: &[u8], place: Span, code: &[u8]) -> bool
     ensures { result ≡ alike code.now (rule.code_in bytes.now place) }
 {
     same(code, code_in(bytes, place))
@@ -58,54 +46,23 @@ pub(crate) fn is_code(bytes: &[u8], place: Span, code: &[u8]) -> bool
 fn is_first(bytes: &[u8], c: Codes, code: &[u8]) -> bool
     ensures { result ≡ among (rule.five_in bytes.now c) code.now }
 {
-    if is_code(bytes, c.cs, code) {
-        return true;
-    }
-    if is_code(bytes, c.dc, code) {
-        return true;
-    }
-    if is_code(bytes, c.clk, code) {
-        return true;
-    }
-    if is_code(bytes, c.mosi, code) {
-        return true;
-    }
-    is_code(bytes, c.rst, code)
+    is_code(bytes, c.cs, code)
+        || is_code(bytes, c.dc, code)
+        || is_code(bytes, c.clk, code)
+        || is_code(bytes, c.mosi, code)
+        || is_code(bytes, c.rst, code)
 }
 
 fn is_further(bytes: &[u8], f: Further, code: &[u8]) -> bool
-    ensures { result ≡ among (rule.further_in bytes.now f) code.now }
+    ensures { result ≡ list_any (λ place. alike code.now (rule.code_in bytes.now place)) f.codes }
 {
-    if is_code(bytes, f.first, code) {
-        return true;
-    }
-    if is_code(bytes, f.second, code) {
-        return true;
-    }
-    if is_code(bytes, f.third, code) {
-        return true;
-    }
-    if is_code(bytes, f.fourth, code) {
-        return true;
-    }
-    if is_code(bytes, f.fifth, code) {
-        return true;
-    }
-    if is_code(bytes, f.sixth, code) {
-        return true;
-    }
-    if is_code(bytes, f.seventh, code) {
-        return true;
-    }
-    is_code(bytes, f.eighth, code)
+    f.codes.iter().any(|place| is_code(bytes, *place, code))
 }
 
 // The code is one of all of these.
+#[tactic(auto, using(crate::proofs::PlacedLaws::placed_is))]
 pub(crate) fn is_placed(bytes: &[u8], c: Codes, f: Further, code: &[u8]) -> bool
     ensures { result ≡ among (rule.placed_in bytes.now c f) code.now }
 {
-    if is_first(bytes, c, code) {
-        return true;
-    }
-    is_further(bytes, f, code)
+    is_first(bytes, c, code) || is_further(bytes, f, code)
 }

@@ -3,7 +3,7 @@ ghost use Rattle.std.specs.Prelude.{◌≡◌};
 ghost use Rattle.vcd_words.specs.Words.{words};
 ghost use Rattle.vcd_declarations.specs.Declarations as rule;
 
-use vcd_words::{is_one_of, next_word, printable, same};
+use vcd_words::{first_word, is_one_of, printable, same};
 
 #[derive(Clone, Copy)]
 pub(crate) enum Keyword {
@@ -18,98 +18,68 @@ pub(crate) enum Keyword {
     Other,
 }
 
+#[tactic(auto, unfolding(crate::specs::Declarations::is_end))]
 pub fn is_end(word: &[u8]) -> bool
     ensures { result ≡ rule.is_end word.now }
 {
     same(word, b"$end")
 }
 
+#[tactic(auto, unfolding(crate::specs::Declarations::keyword_of))]
 pub(crate) fn sorted(word: &[u8]) -> Keyword
     ensures { result ≡ rule.keyword_of word.now }
 {
     if is_one_of(b"$comment $date $version", word) {
-        return Keyword::Text;
+        Keyword::Text
+    } else if same(word, b"$timescale") {
+        Keyword::Timescale
+    } else if same(word, b"$scope") {
+        Keyword::Scope
+    } else if same(word, b"$upscope") {
+        Keyword::Upscope
+    } else if same(word, b"$var") {
+        Keyword::Var
+    } else if same(word, b"$enddefinitions") {
+        Keyword::EndDefinitions
+    } else {
+        Keyword::Other
     }
-    if same(word, b"$timescale") {
-        return Keyword::Timescale;
-    }
-    if same(word, b"$scope") {
-        return Keyword::Scope;
-    }
-    if same(word, b"$upscope") {
-        return Keyword::Upscope;
-    }
-    if same(word, b"$var") {
-        return Keyword::Var;
-    }
-    if same(word, b"$enddefinitions") {
-        return Keyword::EndDefinitions;
-    }
-    Keyword::Other
 }
 
 pub(crate) fn begins(k: Keyword) -> bool
     ensures { result ≡ rule.begins k }
 {
-    match k {
-        Keyword::Text => true,
-        Keyword::Timescale => true,
-        Keyword::Scope => true,
-        Keyword::Upscope => true,
-        Keyword::Var => true,
-        Keyword::EndDefinitions => true,
-        Keyword::Other => false,
-    }
+    !matches!(k, Keyword::Other)
 }
 
 pub(crate) fn is_last(k: Keyword) -> bool
     ensures { result ≡ rule.is_last k }
 {
-    match k {
-        Keyword::Text => false,
-        Keyword::Timescale => false,
-        Keyword::Scope => false,
-        Keyword::Upscope => false,
-        Keyword::Var => false,
-        Keyword::EndDefinitions => true,
-        Keyword::Other => false,
-    }
+    matches!(k, Keyword::EndDefinitions)
 }
 
 // No word at all.
 pub(crate) fn is_bare(text: &[u8]) -> bool
     ensures { result ≡ rule.is_bare (words text.now) }
 {
-    let w = next_word(text, 0);
-    w.from == w.to
+    first_word(text).is_none()
 }
 
 // 1 ns.
+#[tactic(auto, unfolding(crate::specs::Declarations::is_nano))]
 pub(crate) fn is_nano(text: &[u8]) -> bool
     ensures { result ≡ rule.is_nano (words text.now) }
 {
-    let w = next_word(text, 0);
-    let w0 = w.from;
-    let w1 = w.to;
-    if w0 == w1 {
+    let Some((number, rest)) = first_word(text) else {
         return false;
-    }
-    let v = next_word(text, w1);
-    let v0 = v.from;
-    let v1 = v.to;
-    if v0 == v1 {
-        return same(&text[w0..w1], b"1ns");
-    }
-    let u = next_word(text, v1);
-    if u.from != u.to {
-        return false;
-    }
-    if same(&text[w0..w1], b"1") {
-        return same(&text[v0..v1], b"ns");
-    }
-    false
+    };
+    let Some((unit, rest)) = first_word(rest) else {
+        return same(number, b"1ns");
+    };
+    is_bare(rest) && same(number, b"1") && same(unit, b"ns")
 }
 
+#[tactic(auto, unfolding(crate::specs::Declarations::is_scope_type))]
 fn is_scope_type(word: &[u8]) -> bool
     ensures { result ≡ rule.is_scope_type word.now }
 {
@@ -117,27 +87,15 @@ fn is_scope_type(word: &[u8]) -> bool
 }
 
 // A type and a name.
+#[tactic(auto, unfolding(crate::specs::Declarations::is_scope))]
 pub(crate) fn is_scope(text: &[u8]) -> bool
     ensures { result ≡ rule.is_scope (words text.now) }
 {
-    let w = next_word(text, 0);
-    let w0 = w.from;
-    let w1 = w.to;
-    if w0 == w1 {
+    let Some((kind, rest)) = first_word(text) else {
         return false;
-    }
-    let v = next_word(text, w1);
-    let v0 = v.from;
-    let v1 = v.to;
-    if v0 == v1 {
+    };
+    let Some((name, rest)) = first_word(rest) else {
         return false;
-    }
-    let u = next_word(text, v1);
-    if u.from != u.to {
-        return false;
-    }
-    if is_scope_type(&text[w0..w1]) {
-        return printable(&text[v0..v1]);
-    }
-    false
+    };
+    is_bare(rest) && is_scope_type(kind) && printable(name)
 }

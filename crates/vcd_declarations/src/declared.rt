@@ -10,35 +10,19 @@ ghost use Rattle.vcd_declarations.specs.InnerDeclared.{declares_code};
 use crate::codes::is_placed;
 use crate::commands::{Keyword, begins, is_last, sorted};
 use crate::head::{Head, find_end};
-use crate::variable::varied;
-use vcd_values::OTHER;
+use crate::variable::{Variable, varied};
 use vcd_words::{next_word, same};
 
-// The variable whose words these are is one of the five, with that code.
-fn var_has(text: &[u8], code: &[u8]) -> bool
-    ensures { result ≡ declares_code Keyword.Var (words text.now) code.now }
-{
-    let v = varied(text);
-    let place = v.code;
-    let from = place.from;
-    let to = place.to;
-    if v.signal < OTHER {
-        return same(code, &text[from..to]);
-    }
-    false
-}
-
+// A variable with these words is one of the five, with that code.
 fn has_code(k: Keyword, text: &[u8], code: &[u8]) -> bool
     ensures { result ≡ declares_code k (words text.now) code.now }
 {
-    match k {
-        Keyword::Text => false,
-        Keyword::Timescale => false,
-        Keyword::Scope => false,
-        Keyword::Upscope => false,
-        Keyword::Var => var_has(text, code),
-        Keyword::EndDefinitions => false,
-        Keyword::Other => false,
+    if !matches!(k, Keyword::Var) {
+        return false;
+    }
+    match varied(text) {
+        Some(Variable::Of { code: place, .. }) => same(code, &text[place.from..place.to]),
+        _ => false,
     }
 }
 
@@ -46,25 +30,22 @@ fn has_code(k: Keyword, text: &[u8], code: &[u8]) -> bool
 fn is_declared(bytes: &[u8], code: &[u8]) -> bool
     ensures { result ≡ among (rule.head_of (words bytes.now)).all code.now }
 {
-    let mut at: usize = 0;
+    let mut at = 0;
+    // A step is a declaration long: no plainer by an iterator, which would walk it twice.
     while at < bytes.len() {
         let w = next_word(bytes, at);
-        let from = w.from;
-        let to = w.to;
-        let k = sorted(&bytes[from..to]);
+        let k = sorted(&bytes[w.from..w.to]);
         if !begins(k) {
             return false;
         }
-        let e = find_end(bytes, to);
-        let end = e.from;
-        let past = e.to;
-        if end == past {
+        let end = find_end(bytes, w.to);
+        if end.is_empty() {
             return false;
         }
-        if has_code(k, &bytes[to..end], code) {
+        if has_code(k, &bytes[w.to..end.from], code) {
             return true;
         }
-        at = past;
+        at = end.to;
         if is_last(k) {
             return false;
         }
@@ -73,13 +54,13 @@ fn is_declared(bytes: &[u8], code: &[u8]) -> bool
 }
 
 // By the places of a head; where it has not all of them, by the declarations.
+#[tactic(auto, unfolding(crate::specs::Begun::all_by))]
 pub fn is_known(bytes: &[u8], h: Head, code: &[u8]) -> bool
     ensures { result ≡ among (all_by bytes.now h) code.now }
 {
-    let codes = h.codes;
-    let further = h.further;
-    if further.full {
-        return is_declared(bytes, code);
+    if h.further.full {
+        is_declared(bytes, code)
+    } else {
+        is_placed(bytes, h.codes, h.further, code)
     }
-    is_placed(bytes, codes, further, code)
 }

@@ -1,8 +1,8 @@
 // The declarations of a dump, one after the other.
 ghost use Rattle.std.specs.Prelude.{◌≡◌, ◌||◌, ◌+◌, ◌≤◌, ◌<◌, ◌^◌, length};
 ghost use Rattle.vcd_words.specs.Words.{words};
-ghost use Rattle.vcd_words.specs.Places.{part};
-ghost use Rattle.vcd_declarations.specs.Codes.{Within};
+ghost use Rattle.vcd_values.specs.Names.{pin_number};
+ghost use Rattle.vcd_declarations.specs.Codes.{code_in, Within};
 ghost use Rattle.vcd_declarations.specs.Begun.{Begins};
 ghost use Rattle.vcd_declarations.specs.Declarations as rule;
 ghost use Rattle.vcd_declarations.specs.InnerEnd.{EndAt};
@@ -10,8 +10,8 @@ ghost use Rattle.vcd_declarations.specs.InnerHead as inner;
 
 use crate::codes::{Codes, Further, is_placed};
 use crate::commands::{Keyword, begins, is_bare, is_end, is_last, is_nano, is_scope, sorted};
-use crate::variable::varied;
-use vcd_values::{CLK, CS, DC, MOSI, NO_NAME, OTHER};
+use crate::variable::{Variable, varied};
+use vcd_values::Pin;
 use vcd_words::{Span, next_word};
 
 // What the declarations say.
@@ -50,14 +50,7 @@ fn blank() -> Head
         rst: none,
     };
     let further = Further {
-        first: none,
-        second: none,
-        third: none,
-        fourth: none,
-        fifth: none,
-        sixth: none,
-        seventh: none,
-        eighth: none,
+        codes: [none; 8],
         full: false,
     };
     Head {
@@ -69,100 +62,47 @@ fn blank() -> Head
     }
 }
 
-fn either(a: bool, b: bool) -> bool
-    ensures { result ≡ (a || b) }
-{
-    if a {
-        return true;
-    }
-    b
-}
-
 // A declaration that is not right makes the dump malformed.
 fn holding(right: bool, h: Head) -> Head
     ensures { result ≡ inner.holding_head right h }
 {
-    let codes = h.codes;
-    let further = h.further;
     Head {
-        broken: either(h.broken, !right),
-        scaled: h.scaled,
-        bad: h.bad,
-        codes,
-        further,
+        broken: h.broken || !right,
+        ..h
     }
 }
 
 fn scale(right: bool, h: Head) -> Head
     ensures { result ≡ inner.scale_head right h }
 {
-    let codes = h.codes;
-    let further = h.further;
     Head {
-        broken: either(h.broken, !right),
+        broken: h.broken || !right,
         scaled: true,
-        bad: h.bad,
-        codes,
-        further,
+        ..h
     }
 }
 
-fn code_of(c: Codes, signal: u8) -> Span
-    ensures { result ≡ inner.place_of c signal }
+fn code_of(c: Codes, pin: Pin) -> Span
+    ensures { result ≡ inner.place_of c (pin_number pin) }
 {
-    match signal {
-        CS => c.cs,
-        DC => c.dc,
-        CLK => c.clk,
-        MOSI => c.mosi,
-        _ => c.rst,
+    match pin {
+        Pin::Cs => c.cs,
+        Pin::Dc => c.dc,
+        Pin::Clk => c.clk,
+        Pin::Mosi => c.mosi,
+        Pin::Rst => c.rst,
     }
 }
 
-fn with_code(c: Codes, signal: u8, code: Span) -> Codes
-    ensures { result ≡ inner.with_place c signal code }
+fn with_code(c: Codes, pin: Pin, code: Span) -> Codes
+    ensures { result ≡ inner.with_place c (pin_number pin) code }
 {
-    let cs = c.cs;
-    let dc = c.dc;
-    let clk = c.clk;
-    let mosi = c.mosi;
-    let rst = c.rst;
-    match signal {
-        CS => Codes {
-            cs: code,
-            dc,
-            clk,
-            mosi,
-            rst,
-        },
-        DC => Codes {
-            cs,
-            dc: code,
-            clk,
-            mosi,
-            rst,
-        },
-        CLK => Codes {
-            cs,
-            dc,
-            clk: code,
-            mosi,
-            rst,
-        },
-        MOSI => Codes {
-            cs,
-            dc,
-            clk,
-            mosi: code,
-            rst,
-        },
-        _ => Codes {
-            cs,
-            dc,
-            clk,
-            mosi,
-            rst: code,
-        },
+    match pin {
+        Pin::Cs => Codes { cs: code, ..c },
+        Pin::Dc => Codes { dc: code, ..c },
+        Pin::Clk => Codes { clk: code, ..c },
+        Pin::Mosi => Codes { mosi: code, ..c },
+        Pin::Rst => Codes { rst: code, ..c },
     }
 }
 
@@ -170,24 +110,12 @@ fn with_code(c: Codes, signal: u8, code: Span) -> Codes
 fn shifted(f: Further, code: Span) -> Further
     ensures { result ≡ inner.shifted f code }
 {
-    let first = f.first;
-    let second = f.second;
-    let third = f.third;
-    let fourth = f.fourth;
-    let fifth = f.fifth;
-    let sixth = f.sixth;
-    let seventh = f.seventh;
-    let eighth = f.eighth;
+    let mut codes = f.codes;
+    codes.rotate_right(1);
+    codes[0] = code;
     Further {
-        first: code,
-        second: first,
-        third: second,
-        fourth: third,
-        fifth: fourth,
-        sixth: fifth,
-        seventh: sixth,
-        eighth: seventh,
-        full: either(f.full, eighth.from != eighth.to),
+        codes,
+        full: f.full || !f.codes[7].is_empty(),
     }
 }
 
@@ -195,36 +123,26 @@ fn shifted(f: Further, code: Span) -> Further
 fn added(f: Further, placed: bool, code: Span) -> Further
     ensures { result ≡ inner.added f placed code }
 {
-    if placed {
-        return f;
-    }
-    shifted(f, code)
+    if placed { f } else { shifted(f, code) }
 }
 
 // One of the five, with a code that has a place already or not.
-fn declare(h: Head, signal: u8, wide: bool, code: Span, placed: bool) -> Head
-    ensures { result ≡ inner.declare_head h signal wide code placed }
+fn declare(h: Head, pin: Pin, wide: bool, code: Span, placed: bool) -> Head
+    ensures { result ≡ inner.declare_head h (pin_number pin) wide code placed }
 {
-    let codes = h.codes;
-    let further = h.further;
-    let had = code_of(codes, signal);
-    if had.from == had.to {
-        let with = with_code(codes, signal, code);
+    if code_of(h.codes, pin).is_empty() {
+        let codes = with_code(h.codes, pin, code);
         return Head {
-            broken: h.broken,
-            scaled: h.scaled,
-            bad: either(h.bad, wide),
-            codes: with,
-            further,
+            bad: h.bad || wide,
+            codes,
+            ..h
         };
     }
-    let more = added(further, placed, code);
+    let further = added(h.further, placed, code);
     Head {
-        broken: h.broken,
-        scaled: h.scaled,
         bad: true,
-        codes,
-        further: more,
+        further,
+        ..h
     }
 }
 
@@ -240,41 +158,36 @@ fn moved(n: usize, s: Span) -> Span
     }
 }
 
-// The variable whose words lie between two places.
-fn declares_var(h: Head, bytes: &[u8], from: usize, to: usize) -> Head
-    requires { Within (record { from = from; to = to }) (length bytes.now) }
+// The variable whose words lie at a place.
+fn declares_var(h: Head, bytes: &[u8], place: Span) -> Head
+    requires { Within place (length bytes.now) }
     ensures { (s : rule.Head) → inner.Tells bytes.now h s
-        → inner.Tells bytes.now result (rule.variable (words (part bytes.now from to)) s) }
+        → inner.Tells bytes.now result (rule.variable (words (code_in bytes.now place)) s) }
 {
-    let v = varied(&bytes[from..to]);
-    let signal = v.signal;
-    let code = v.code;
-    if signal < OTHER {
-        let place = moved(from, code);
-        let p0 = place.from;
-        let p1 = place.to;
-        let codes = h.codes;
-        let further = h.further;
-        let placed = is_placed(bytes, codes, further, &bytes[p0..p1]);
-        return declare(h, signal, v.wide, place, placed);
+    match varied(&bytes[place.from..place.to]) {
+        Some(Variable::Of { pin, wide, code }) => {
+            let code = moved(place.from, code);
+            let placed = is_placed(bytes, h.codes, h.further, &bytes[code.from..code.to]);
+            declare(h, pin, wide, code, placed)
+        }
+        Some(Variable::Other) => h,
+        None => holding(false, h),
     }
-    holding(signal != NO_NAME, h)
 }
 
-// One declaration: its keyword, and the places of the words behind it.
-fn declares(h: Head, k: Keyword, bytes: &[u8], from: usize, to: usize) -> Head
-    requires { Within (record { from = from; to = to }) (length bytes.now) }
+// One declaration: its keyword, and the place of the words behind it.
+fn declares(h: Head, k: Keyword, bytes: &[u8], place: Span) -> Head
+    requires { Within place (length bytes.now) }
     ensures { (s : rule.Head) → inner.Tells bytes.now h s
-        → inner.Tells bytes.now result (rule.declares_by k (words (part bytes.now from to)) s) }
+        → inner.Tells bytes.now result (rule.declares_by k (words (code_in bytes.now place)) s) }
 {
+    let text = &bytes[place.from..place.to];
     match k {
-        Keyword::Text => h,
-        Keyword::Timescale => scale(is_nano(&bytes[from..to]), h),
-        Keyword::Scope => holding(is_scope(&bytes[from..to]), h),
-        Keyword::Upscope => holding(is_bare(&bytes[from..to]), h),
-        Keyword::Var => declares_var(h, bytes, from, to),
-        Keyword::EndDefinitions => holding(is_bare(&bytes[from..to]), h),
-        Keyword::Other => h,
+        Keyword::Text | Keyword::Other => h,
+        Keyword::Timescale => scale(is_nano(text), h),
+        Keyword::Scope => holding(is_scope(text), h),
+        Keyword::Upscope | Keyword::EndDefinitions => holding(is_bare(text), h),
+        Keyword::Var => declares_var(h, bytes, place),
     }
 }
 
@@ -285,17 +198,16 @@ pub(crate) fn find_end(bytes: &[u8], at: usize) -> Span
     ensures { EndAt bytes.now at result }
 {
     let mut i = at;
+    // A step is a word long, and its place is wanted: no plainer by an iterator.
     while i < bytes.len() {
         let w = next_word(bytes, i);
-        let from = w.from;
-        let to = w.to;
-        if from == to {
+        if w.is_empty() {
             return w;
         }
-        if is_end(&bytes[from..to]) {
+        if is_end(&bytes[w.from..w.to]) {
             return w;
         }
-        i = to;
+        i = w.to;
     }
     Span { from: i, to: i }
 }
@@ -305,31 +217,32 @@ pub fn declarations(bytes: &[u8]) -> Begun
     ensures { Begins bytes.now result }
 {
     let mut head = blank();
-    let mut at: usize = 0;
+    let mut at = 0;
+    // A step is a declaration long: no plainer by an iterator, which would walk it twice.
     while at < bytes.len() {
         let w = next_word(bytes, at);
-        let from = w.from;
-        let to = w.to;
-        let k = sorted(&bytes[from..to]);
+        let k = sorted(&bytes[w.from..w.to]);
         if !begins(k) {
             return Begun {
                 head,
                 ended: true,
-                next: from,
+                next: w.from,
             };
         }
-        let e = find_end(bytes, to);
-        let end = e.from;
-        let past = e.to;
-        if end == past {
+        let end = find_end(bytes, w.to);
+        if end.is_empty() {
             return Begun {
                 head,
                 ended: false,
                 next: bytes.len(),
             };
         }
-        head = declares(head, k, bytes, to, end);
-        at = past;
+        let place = Span {
+            from: w.to,
+            to: end.from,
+        };
+        head = declares(head, k, bytes, place);
+        at = end.to;
         if is_last(k) {
             return Begun {
                 head,

@@ -8,7 +8,7 @@ mod declared;
 mod head;
 mod variable;
 
-pub use codes::{Codes, Further};
+pub use codes::{Codes, Further, is_code};
 pub use commands::is_end;
 pub use declared::is_known;
 pub use head::{Begun, Head, declarations};

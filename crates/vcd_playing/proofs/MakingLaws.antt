@@ -7,17 +7,18 @@ use native.Mathlib.Omega.{arith}
 use lib.Dec.{eqb}
 use lib.ListN.{length}
 use borrow.Author.Tests.{eq-eqb, ne_eqb}
+use Rattle.std.specs.Result.{MatchResult, is_ok}
+use Rattle.std.proofs.Common.{Result, Ok, Err}
 use Rattle.base.specs.Pick.{pick}
 use Rattle.base.specs.RefusalNumbers.{refusal_number}
 use Rattle.base.specs.declared.refusals.Refusal.{Refusal}
-use Rattle.base.specs.declared.refusals.Refusal.TheVariants as refusal
+use Rattle.base.proofs.RefusalWords.{some_number}
 use Rattle.config.specs.declared.Uc8253Config.{Uc8253Config}
 use Rattle.capture.specs.Layout.{config_of}
 use Rattle.capture.specs.Refused.{bad_config}
 use Rattle.controller.specs.World.{World, Buffers, world}
 use Rattle.controller.specs.TurnedBack.{making_refused}
 use Rattle.controller.specs.Calls.{made, zeros}
-use Rattle.controller.specs.declared.Answer.{Answer}
 use Rattle.event.specs.Events.{event_done}
 use Rattle.vcd_declarations.specs.declared.head.Begun.{Begun}
 use Rattle.vcd_declarations.specs.Begun.{Begins}
@@ -26,28 +27,27 @@ use Rattle.vcd_simulation.specs.Simulation.{Went, begun}
 use Rattle.vcd_simulation.specs.Feed.{codes_by}
 use Rattle.vcd.specs.Dump.{simulated, malformed, unsignalled, dump_events, config_in, dump_refused, judged}
 use Rattle.vcd.specs.Played.{calls, dump_played}
-use Rattle.vcd.specs.declared.judging.Judged.{Judged}
-use Rattle.vcd.specs.declared.judging.Judged.TheVariants as judge
+use Rattle.vcd.specs.declared.judging.Fault.{Fault}
+use Rattle.vcd.specs.declared.judging.Fault.TheVariants.{Malformed, Unsignalled}
 use Rattle.vcd.proofs.Calls.{calls_join}
 use Rattle.vcd.proofs.JudgeLaws.{simulated_is}
 use Rattle.vcd_playing.specs.declared.words.Turn.{Turn}
 use Rattle.vcd_playing.specs.Words.{Plays}
-use Rattle.vcd_playing.specs.Making.{Turned, config_refused, config_made, finished, fine_played, number_by}
+use Rattle.vcd_playing.specs.Making.{config_refused, config_made, finished, fine_played, refusal_of, number_by}
 
 -- what a contract says of a making: the world after it, and its number
-abbrev Made : (Buffers → World) → (Buffers → ℕ) → Buffers → World → Refusal → Type 0
-Made f number b w r = (w ≡ f b) × (refusal_number r ≡ number b)
+abbrev Made : (Buffers → World) → (Buffers → ℕ) → Buffers → World → ℕ → Type 0
+Made f number b w n = (w ≡ f b) × (n ≡ number b)
 
 -- ---- the making
-pub bad_made : (config : List ℕ) (b : Buffers) (r : Answer) → Turned refusal.BadEvent r → bad_config config 0 ≡ true
-    → Made (config_made config) (config_refused config) b (world r.chip b) r.refused
+pub bad_made : (config : List ℕ) (b : Buffers) → bad_config config 0 ≡ true → Made (config_made config) (config_refused config) b (world zeros b) 9
 unfolding config_made config_refused
-bad_made config b r t e = (rw (e, t.chip_is), rw (e, t.refused_is))
+bad_made config b e = (rw e, rw e)
 
-pub good_made : (config : List ℕ) (b : Buffers) (w : World) (r : Refusal) (c : Uc8253Config) → c ≡ config_of config 0 → bad_config config 0 ≡ false
-    → Made (made c) (making_refused c) b w r → Made (config_made config) (config_refused config) b w r
+pub good_made : (config : List ℕ) (b : Buffers) {w : World} {n : ℕ} (c : Uc8253Config) → c ≡ config_of config 0 → bad_config config 0 ≡ false
+    → Made (made c) (making_refused c) b w n → Made (config_made config) (config_refused config) b w n
 unfolding config_made config_refused config_in
-good_made config b w r c s e m =
+good_made config b c s e m =
     (m.0 ∙ ap (λ (x : Uc8253Config). made x b) s ∙ rw e, m.1 ∙ ap (λ (x : Uc8253Config). making_refused x b) s ∙ rw e)
 
 -- ---- the calls of a dump's words, and the advance at their end
@@ -81,22 +81,22 @@ turned_back_lem config b = by_config (bad_config config 0)
     by_config true e = refl
     by_config false e = rw e
 
-module _ (config dump : List ℕ) (b : Buffers) (w : World) (r : Refusal) where
-  pub fine_yes : (v : World) → Made (config_made config) (config_refused config) b v r → eqb (config_refused config b) 0 ≡ true
-      → w ≡ calls (dump_events dump) v → Made (fine_played config dump) (config_refused config) b w r
+module _ (config dump : List ℕ) (b : Buffers) {w : World} {n : ℕ} where
+  pub fine_yes : (v : World) → Made (config_made config) (config_refused config) b v n → eqb (config_refused config b) 0 ≡ true
+      → w ≡ calls (dump_events dump) v → Made (fine_played config dump) (config_refused config) b w n
   unfolding fine_played
   fine_yes v m z e = (e ∙ ap (calls (dump_events dump)) (m.0 ∙ taken config b z) ∙ rw z, m.1)
 
-  pub fine_no : Made (config_made config) (config_refused config) b w r → eqb (config_refused config b) 0 ≡ false
-      → Made (fine_played config dump) (config_refused config) b w r
+  pub fine_no : Made (config_made config) (config_refused config) b w n → eqb (config_refused config b) 0 ≡ false
+      → Made (fine_played config dump) (config_refused config) b w n
   unfolding fine_played
   fine_no m z = (m.0 ∙ turned_back_lem config b z ∙ rw z, m.1)
 
 -- ---- the order: 8, 11, 12, then the configuration's
-turned_made : (config dump : List ℕ) (b : Buffers) (x : Refusal) (r : Answer) → Turned x r → eqb (refusal_number x) 0 ≡ false
-    → dump_refused config dump b ≡ refusal_number x → Made (dump_played config dump) (dump_refused config dump) b (world r.chip b) r.refused
+turned_made : (config dump : List ℕ) (b : Buffers) (n : ℕ) → eqb n 0 ≡ false → dump_refused config dump b ≡ n
+    → Made (dump_played config dump) (dump_refused config dump) b (world zeros b) n
 unfolding dump_played
-turned_made config dump b x r t n e = (rw (e, n, t.chip_is), rw t.refused_is (sym e))
+turned_made config dump b n z e = (rw (e, z), sym e)
 
 dump_number : (config dump : List ℕ) (b : Buffers)
     → dump_refused config dump b ≡ pick (eqb (length config) 312) (number_by (judged dump) (config_refused config b)) 8
@@ -105,45 +105,56 @@ dump_number config dump b = by_judged (malformed dump) (unsignalled dump)
   where
     by_judged : (m u : Bool)
         → pick (eqb (length config) 312) (pick m 11 (pick u 12 (pick (bad_config config 0) 9 (making_refused (config_in config) b)))) 8
-        ≡ pick (eqb (length config) 312) (number_by (pick m judge.Malformed (pick u judge.Unsignalled judge.Fine))
+        ≡ pick (eqb (length config) 312) (number_by (pick m (Err Malformed) (pick u (Err Unsignalled) (Ok tt)))
         (pick (bad_config config 0) 9 (making_refused (config_in config) b))) 8
     by_judged true u = refl
     by_judged false true = refl
     by_judged false false = refl
 
+fault_number : (x : Fault) (n : ℕ) → number_by (Err x) n ≡ refusal_number (refusal_of x)
+fault_number Malformed n = refl
+fault_number Unsignalled n = refl
+
 module _ (config dump : List ℕ) (b : Buffers) where
-  pub eight : (r : Answer) → Turned refusal.BrokenCapture r → (length config ≡ 312 → ⊥)
-      → Made (dump_played config dump) (dump_refused config dump) b (world r.chip b) r.refused
-  eight r t n = turned_made config dump b refusal.BrokenCapture r t refl (dump_number config dump b ∙ rw (ne_eqb (length config) 312 n))
+  pub eight : (length config ≡ 312 → ⊥) → Made (dump_played config dump) (dump_refused config dump) b (world zeros b) 8
+  eight n = turned_made config dump b 8 refl (dump_number config dump b ∙ rw (ne_eqb (length config) 312 n))
 
-  module _ (whole : length config ≡ 312) (j : Judged) (is : j ≡ judged dump) where
-    pub number_is : dump_refused config dump b ≡ number_by j (config_refused config b)
-    number_is = dump_number config dump b ∙ rw (eq-eqb (length config) 312 whole, ← is)
+  module _ (whole : length config ≡ 312) where
+    pub number_is : dump_refused config dump b ≡ number_by (judged dump) (config_refused config b)
+    number_is = dump_number config dump b ∙ rw (eq-eqb (length config) 312 whole)
 
-    pub eleven : (r : Answer) → Turned refusal.MalformedDump r → j ≡ judge.Malformed
-        → Made (dump_played config dump) (dump_refused config dump) b (world r.chip b) r.refused
-    eleven r t e = turned_made config dump b refusal.MalformedDump r t refl (number_is ∙ rw e)
+    -- 11 and 12
+    pub faulty : (x : Fault) → judged dump ≡ Err x
+        → Made (dump_played config dump) (dump_refused config dump) b (world zeros b) (refusal_number (refusal_of x))
+    faulty x e =
+        turned_made config dump b _ (some_number (refusal_of x)) (number_is ∙ rw e (fault_number x (config_refused config b)))
 
-    pub twelve : (r : Answer) → Turned refusal.WrongSignals r → j ≡ judge.Unsignalled
-        → Made (dump_played config dump) (dump_refused config dump) b (world r.chip b) r.refused
-    twelve r t e = turned_made config dump b refusal.WrongSignals r t refl (number_is ∙ rw e)
-
-    pub fine : (w : World) (r : Refusal) → j ≡ judge.Fine → Made (fine_played config dump) (config_refused config) b w r
-        → Made (dump_played config dump) (dump_refused config dump) b w r
+    pub fine : {w : World} {n : ℕ} → judged dump ≡ Ok tt → Made (fine_played config dump) (config_refused config) b w n
+        → Made (dump_played config dump) (dump_refused config dump) b w n
     unfolding dump_played fine_played
-    fine w r e m =
+    fine e m =
         let number : dump_refused config dump b ≡ config_refused config b = number_is ∙ rw e in
         (m.0 ∙ rw number, m.1 ∙ sym number)
 
+-- the verdict, by its refusal's word
+pub word_of : (j : Result (Unit {0}) Fault) {e : Refusal} → false ≡ is_ok j → MatchResult j (λ x. Err e ≡ Ok x) (λ x. e ≡ refusal_of x)
+    → (x : Fault) × (j ≡ Err x) × (e ≡ refusal_of x)
+word_of (Ok x) v m = absurd (false≢true v)
+word_of (Err x) v m = (x, refl, m)
+
+pub no_word : (j : Result (Unit {0}) Fault) → true ≡ is_ok j → j ≡ Ok tt
+no_word (Ok x) v = refl
+no_word (Err x) v = absurd (false≢true (sym v))
+
 -- ---- a dump that is not turned back leaves what its calls leave, from the configuration's making on
-none_by : (j : Judged) (n : ℕ) → number_by j n ≡ 0 → n ≡ 0
-none_by judge.Malformed n e = absurd (omega (arith, e))
-none_by judge.Unsignalled n e = absurd (omega (arith, e))
-none_by judge.Fine n e = e
+none_by : (j : Result (Unit {0}) Fault) (n : ℕ) → number_by j n ≡ 0 → n ≡ 0
+none_by (Err Malformed) n e = absurd (omega (arith, e))
+none_by (Err Unsignalled) n e = absurd (omega (arith, e))
+none_by (Ok x) n e = e
 
 pub whole_played : (config dump : List ℕ) (b : Buffers) → length config ≡ 312 → dump_refused config dump b ≡ 0
     → calls (dump_events dump) (config_made config b) ≡ dump_played config dump b
 unfolding dump_played
 whole_played config dump b l e =
-    let fine = none_by (judged dump) (config_refused config b) (sym (number_is config dump b l (judged dump) refl) ∙ e) in
+    let fine = none_by (judged dump) (config_refused config b) (sym (number_is config dump b l) ∙ e) in
     ap (calls (dump_events dump)) (taken config b (eq-eqb (config_refused config b) 0 fine)) ∙ rw (eq-eqb (dump_refused config dump b) 0 e)

@@ -1,23 +1,18 @@
 -- A configuration's making, and the calls of a dump that is not turned back.
-use Rattle.std.specs.Prelude.{◌≡◌, List, ℕ, eqb}
+use Rattle.std.specs.Prelude.{List, ℕ, eqb, Result, Ok, Err}
 use Rattle.base.specs.Pick.{pick}
 use Rattle.base.specs.declared.refusals.Refusal.{Refusal}
+use Rattle.base.specs.declared.refusals.Refusal.TheVariants as refusal
 use Rattle.capture.specs.Refused.{bad_config}
 use Rattle.controller.specs.World.{World, Buffers, world}
 use Rattle.controller.specs.TurnedBack.{making_refused}
 use Rattle.controller.specs.Calls.{made, zeros}
-use Rattle.controller.specs.declared.Answer.{Answer}
 use Rattle.event.specs.Events.{event_done}
 use Rattle.vcd_simulation.specs.declared.body.Body.{Body}
-use Rattle.vcd.specs.declared.judging.Judged.{Judged}
-use Rattle.vcd.specs.declared.judging.Judged.TheVariants as judge
+use Rattle.vcd.specs.declared.judging.Fault.{Fault}
+use Rattle.vcd.specs.declared.judging.Fault.TheVariants.{Malformed, Unsignalled}
 use Rattle.vcd.specs.Dump.{config_in, dump_events}
 use Rattle.vcd.specs.Played.{calls}
-
--- turned back by a number, with the record of zeros
-pub record Turned (refused : Refusal) (r : Answer) : Type 0 where
-  pub chip_is : r.chip ≡ zeros
-  pub refused_is : r.refused ≡ refused
 
 -- 9, and then 1 to 5
 unfoldable pub config_refused : List ℕ → Buffers → ℕ
@@ -36,7 +31,11 @@ fine_played config dump b =
     pick (eqb (config_refused config b) 0) (calls (dump_events dump) (made (config_in config) b)) (world zeros b)
 
 -- what turns a dump back: 11 and 12 come before what turns its configuration back
-abbrev pub number_by : Judged → ℕ → ℕ
-number_by judge.Malformed n = 11
-number_by judge.Unsignalled n = 12
-number_by judge.Fine n = n
+abbrev pub refusal_of : Fault → Refusal
+refusal_of Malformed = refusal.MalformedDump
+refusal_of Unsignalled = refusal.WrongSignals
+
+abbrev pub number_by : Result (Unit {0}) Fault → ℕ → ℕ
+number_by (Err Malformed) n = 11
+number_by (Err Unsignalled) n = 12
+number_by (Ok fine) n = n

@@ -1,10 +1,10 @@
 // Words of a simulation through the controller, with the calls that they make.
 ghost use Rattle.controller.specs.World.{world};
-ghost use Rattle.controller.specs.Lent.{before, after};
+ghost use Rattle.controller.specs.Lent.{before, after, Keeps};
 ghost use Rattle.vcd_simulation.specs.Feed.{codes_by};
 ghost use Rattle.vcd_playing.specs.Words as rule;
 
-use controller::Uc8253;
+use controller::{Lent, Uc8253};
 use events::run;
 use vcd_declarations::Head;
 use vcd_simulation::{Body, feed};
@@ -33,39 +33,30 @@ pub fn play_words(
     at: usize,
     last: bool,
     b: Body,
-    old: &mut [u8],
-    new: &mut [u8],
-    states: &mut [i64],
-    picture: &mut [u8],
-    rows: &mut [u64],
+    lent: &mut Lent<'_>,
 ) -> Turn
-    ensures { rule.Plays (codes_by head.now h) bytes.now at last b result
-        (world p (before old new states picture rows)) (world result.chip (after old new states picture rows)) }
+    ensures plays { rule.Plays (codes_by head.now h) bytes.now at last b result
+        (world p (before lent)) (world result.chip (after lent)) }
+    ensures kept { Keeps lent }
 {
     let mut out = [0u8; ROOM];
-    let mut answers = [0u16; 1];
-    let mut chip = p;
-    let mut body = b;
-    let mut next = at;
-    while next < bytes.len() {
-        let f = feed(head, h, bytes, next, last, body, &mut out);
-        let held = f.held;
-        let ran = run(
-            chip,
-            &out[..held],
-            &mut answers,
-            old,
-            new,
-            states,
-            picture,
-            rows,
-        );
-        chip = ran.chip;
-        body = f.body;
-        next = f.next;
-        if held <= ROOM - FREE {
-            return Turn { chip, body, next };
+    let mut t = Turn {
+        chip: p,
+        body: b,
+        next: at,
+    };
+    // no plainer: a turn takes as many words as there is room for, so there is no index to count
+    while t.next < bytes.len() {
+        let f = feed(head, h, bytes, t.next, last, t.body, &mut out);
+        let ran = run(t.chip, &out[..f.held], &mut [], lent);
+        t = Turn {
+            chip: ran.chip,
+            body: f.body,
+            next: f.next,
+        };
+        if f.held <= ROOM - FREE {
+            return t;
         }
     }
-    Turn { chip, body, next }
+    t
 }

@@ -1,57 +1,59 @@
 -- Bytes behind others in a buffer, and the word that is open at the end of some bytes.
 use mathlib.Core.Path.{◌≡◌, refl, sym, ap, ◌∙◌}
-use mathlib.Core.Bool.{true, false, false≢true}
 use mathlib.Core.List.{List, [], ◌∷◌, ◌++◌}
-use Prim.Native.Nat.{ℕ, ◌+◌, ◌-◌, ◌≤◌, ◌<◌}
+use Prim.Native.Nat.{ℕ, ◌+◌, ◌-◌, ◌≤◌, min}
 use native.Mathlib.Omega.{arith}
 use borrow.Author.Tests.{ltb-true, ltb-false}
 use lib.Dec.{ltb}
-use lib.ListN.{length, take, drop, length-take, length-drop}
-use lib.Seq.{take_all, take-take, length-take-le, take-append-le, take-append-add}
+use lib.ListN.{length, take, drop, length-append, length-drop}
+use lib.Seq.{length-take-le, take-append-add, take-append_seam}
+use Rattle.std.proofs.Common.{Option}
+use Rattle.std.proofs.lemmas.List.{take_min}
 use Rattle.base.proofs.Cases.{by_cases}
-use Rattle.text.specs.Text.{filled, laid, Puts}
-use Rattle.text.proofs.Filling.{length_puts}
 use Rattle.vcd_words.specs.Words.{is_blank, closed, opened}
 use Rattle.vcd_words.specs.declared.Span.{Span}
 use Rattle.vcd_words.specs.Places.{front, is_solid, span_at, part}
 use Rattle.vcd_words.proofs.SpanLaws.{Next, next_is}
-use Rattle.vcd_reading.specs.declared.carrying.Carried.{Carried}
 use Rattle.vcd_reading.specs.InnerCarried.{Carries}
 
--- ---- as much as there is room for
-pub put_front : (x b c : List ℕ) (h r : ℕ) → Puts x h r b c → h ≤ length b → take r c ≡ take h b ++ take (r - h) x
-unfolding filled laid
-put_front x b c h r p l =
-    ap (take r) p.buffer
-    ∙ ap (λ (n : ℕ). take n (take h b ++ f)) there
-    ∙ take-append-add (take h b) f (r - h)
-    ∙ ap (λ (t : List ℕ). take h b ++ t)
-    (take-append-le (r - h) (take (length (drop h b)) x) (drop (length x) (drop h b)) (omega (arith, p.count, length-drop h b, length-take (length (drop h b)) x))
-    ∙ take-take (r - h) (length (drop h b)) x (omega (arith, p.count, length-drop h b)))
-  where
-    f : List ℕ
-    f = take (length (drop h b)) x ++ drop (length x) (drop h b)
+-- ---- bytes copied behind the first h of a buffer
+abbrev copied : ℕ → ℕ → List ℕ → List ℕ → List ℕ
+copied h k x b = take h b ++ (x ++ drop k (drop h b))
 
-    there : r ≡ length (take h b) + (r - h)
-    there = omega (arith, p.count, l, length-take-le h b l)
+module _ (x b : List ℕ) (h k : ℕ) (l : h + length x ≤ length b) (e : k ≡ length x) where
+  copied_front : take (h + length x) (copied h k x b) ≡ take h b ++ x
+  copied_front =
+      ap (λ (n : ℕ). take n (copied h k x b)) there
+      ∙ take-append-add (take h b) (x ++ drop k (drop h b)) (length x)
+      ∙ ap (λ (t : List ℕ). take h b ++ t) (take-append_seam x (drop k (drop h b)))
+    where
+      there : h + length x ≡ length (take h b) + length x
+      there = omega (arith, length-take-le h b (omega (arith, l)))
 
-pub no_room : (more : List ℕ) (carried : ℕ) (word : List ℕ) → length word - carried < length more
-    → Carries more carried (record { fits = false; count = carried }) word word
-no_room more carried word h = record {
-  size = refl;
-  inside = λ e. absurd (false≢true e);
-  front = λ e. absurd (false≢true e);
-  long = λ e. omega (arith, h);
-}
+  copied_length : length (copied h k x b) ≡ length b
+  copied_length = omega (arith, e, l, length-append (take h b) (x ++ drop k (drop h b)), length-append x (drop k (drop h b)), length-take-le h b (omega (arith, l)), length-drop k (drop h b), length-drop h b)
 
-pub some_room : (more : List ℕ) (carried r : ℕ) (word word' : List ℕ) → carried ≤ length word → length more ≤ length word - carried
-    → Puts more carried r word word' → Carries more carried (record { fits = true; count = r }) word word'
-some_room more carried r word word' l h p = record {
-  size = length_puts p;
-  inside = λ e. omega (arith, p.count, length_puts p);
-  front = λ e. put_front more word word' carried r p l ∙ ap (λ (t : List ℕ). take carried word ++ t) (take_all (r - carried) more (omega (arith, p.count, l, h)));
-  long = λ e. absurd (false≢true (sym e));
-}
+-- n bytes of some, as many as there is room for
+pub record Kept (bytes : List ℕ) (h n : ℕ) (kept kept' : List ℕ) : Type 0 where
+  pub count : n ≡ min (length bytes) (length kept - h)
+  pub size : length kept' ≡ length kept
+  pub front : take (h + n) kept' ≡ take h kept ++ take n bytes
+
+pub kept_as : (bytes kept : List ℕ) (h n : ℕ) {x : List ℕ} → h ≤ length kept → n ≡ min (length bytes) (length kept - h) → x ≡ take n bytes
+    → Kept bytes h n kept (copied h (h + n - h) x kept)
+kept_as bytes kept h n {x} l e q =
+    let long : length x ≡ n = ap length q ∙ length-take-le n bytes (omega (arith, e)) in
+    let room : h + length x ≤ length kept = omega (arith, long, e, l) in
+    let all : h + n - h ≡ length x = omega (arith, long) in record {
+      count = e;
+      size = copied_length x kept h (h + n - h) room all;
+      front = ap (λ (m : ℕ). take (h + m) (copied h (h + n - h) x kept)) (sym long) ∙ copied_front x kept h (h + n - h) room all
+          ∙ ap (λ (t : List ℕ). take h kept ++ t) q;
+    }
+
+-- the first bytes of a buffer, all at most
+pub front_as : {n : ℕ} (h : ℕ) (b : List ℕ) → n ≡ min h (length b) → take n b ≡ take h b
+front_as h b e = ap (λ (m : ℕ). take m b) e ∙ take_min h b
 
 -- ---- no word is closed, so the next one is the open one
 pub open_part : (bytes : List ℕ) (at : ℕ) (s : Span) → s ≡ span_at bytes at → at ≤ length bytes → closed (drop at bytes) ≡ []
@@ -67,7 +69,7 @@ open_part bytes at s e l n = sym (next.opens last_word)
         no : {w : List ℕ} {ws : List (List ℕ)} → closed (drop at bytes) ≡ w ∷ ws → ⊥
         no q = omega (arith, ap length (sym n ∙ q))
 
-pub carries_as : {x y : List ℕ} {carried : ℕ} {r : Carried} {word word' : List ℕ} → x ≡ y → Carries x carried r word word' → Carries y carried r word word'
+pub carries_as : {x y : List ℕ} {carried : ℕ} {r : Option ℕ} {word word' : List ℕ} → x ≡ y → Carries x carried r word word' → Carries y carried r word word'
 carries_as e c = rw (← e) c
 
 -- ---- the bytes before the first blank

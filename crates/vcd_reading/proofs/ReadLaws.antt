@@ -2,10 +2,12 @@
 use mathlib.Core.Path.{◌≡◌, refl, sym, ap, subst, ◌∙◌}
 use mathlib.Core.Bool.{Bool, true, false}
 use mathlib.Core.List.{List, [], ◌∷◌, ◌++◌, append_assoc, append-nil}
+use mathlib.Core.Logic.{◌⊎◌, inl, inr}
 use Prim.Native.Nat.{ℕ, suc, ◌≤◌, ◌<◌}
 use native.Mathlib.Omega.{arith}
 use lib.ListN.{length, take, drop, length-append, length-drop, take-append-drop}
 use lib.Seq.{drop-append-le, length-take-le, take_all}
+use Rattle.std.proofs.Common.{Option, Some, None}
 use Rattle.base.proofs.Cases.{by_cases}
 use Rattle.controller.specs.World.{World}
 use Rattle.vcd_words.specs.Words.{is_blank, closed, opened, words}
@@ -24,7 +26,6 @@ use Rattle.vcd_reading.specs.declared.reader.Stage.{Stage}
 use Rattle.vcd_reading.specs.declared.reader.Stage.TheVariants as stage
 use Rattle.vcd_reading.specs.declared.reader.Reader.{Reader}
 use Rattle.vcd_reading.specs.declared.reading.Step.{Step}
-use Rattle.vcd_reading.specs.declared.carrying.Carried.{Carried}
 use Rattle.vcd_reading.specs.Reading.{Playing, LongHead, LongWord, StandsBy, Stands}
 use Rattle.vcd_reading.specs.InnerCarried.{Carries}
 use Rattle.vcd_reading.specs.InnerStep.{gone_on, part_went, PlaysPart}
@@ -54,13 +55,6 @@ stands_as d kept word w v e s = subst (λ (x : Reader). Stands d x kept word w v
 pub dump_as : {d d' : List ℕ} (r : Reader) (kept word : List ℕ) (w v : World) → d ≡ d' → Stands d r kept word w v → Stands d' r kept word w v
 dump_as r kept word w v e s = subst (λ (x : List ℕ). Stands x r kept word w v) e s
 
-pub start_as : (d : List ℕ) (r : Reader) (kept word : List ℕ) (u : World) {v w : World} → v ≡ w → Stands d r kept word v u → Stands d r kept word w u
-start_as d r kept word u e s = subst (λ (x : World). Stands d r kept word x u) e s
-
-pub part_as : {bytes bytes' : List ℕ} {kept : List ℕ} {r : Reader} {at : ℕ} {s : Step} {word word' : List ℕ} {v u : World} → bytes ≡ bytes'
-    → PlaysPart kept r bytes at s word word' v u → PlaysPart kept r bytes' at s word word' v u
-part_as e p = rw (← e) p
-
 -- ---- by the stage
 pub at_stage : (d : List ℕ) (r : Reader) (kept word : List ℕ) (w v : World) (x : Stage) → r.stage ≡ x → Stands d r kept word w v → StandsBy x d r kept word w v
 at_stage d r kept word w v x e s = subst (λ (y : Stage). StandsBy y d r kept word w v) e s
@@ -69,7 +63,7 @@ pub of_stage : (d : List ℕ) (r : Reader) (kept word : List ℕ) (w v : World) 
 of_stage d r kept word w v x e s = subst (λ (y : Stage). StandsBy y d r kept word w v) (sym e) s
 
 -- ---- words from a place on, and the open one carried
-pub part_played : (kept : List ℕ) (r : Reader) (bytes : List ℕ) (at : ℕ) (s : Step) (word word' : List ℕ) (v u : World) (t : Turn) (c : Carried) (head : List ℕ)
+pub part_played : (kept : List ℕ) (r : Reader) (bytes : List ℕ) (at : ℕ) (s : Step) (word word' : List ℕ) (v u : World) (t : Turn) (c : Option ℕ) (head : List ℕ)
     → head ≡ take r.held kept → Plays (codes_by head r.begun.head) bytes at false r.body t v u
     → Carries (opened (drop t.next bytes)) 0 c word word' → s.reader ≡ gone_on r t.body c → PlaysPart kept r bytes at s word word' v u
 part_played kept r bytes at s word word' v u t c head e p k q =
@@ -101,6 +95,13 @@ word_more d more most l = record {
   from = l.from;
   longer = l.longer;
 }
+
+pub limit_more : (d more : List ℕ) (r : Reader) (kept word : List ℕ) (w v : World) → (r.stage ≡ stage.HeadTooLong) ⊎ (r.stage ≡ stage.WordTooLong)
+    → Stands d r kept word w v → Stands (d ++ more) r kept word w v
+limit_more d more r kept word w v (inl e) s =
+    of_stage (d ++ more) r kept word w v stage.HeadTooLong e (head_more d more (length kept) (at_stage d r kept word w v stage.HeadTooLong e s))
+limit_more d more r kept word w v (inr e) s =
+    of_stage (d ++ more) r kept word w v stage.WordTooLong e (word_more d more (length word) (at_stage d r kept word w v stage.WordTooLong e s))
 
 -- ---- the bytes before the first blank
 solid_take : (l : List ℕ) → front is_solid (take (front is_solid l) l) ≡ length (take (front is_solid l) l)
@@ -143,18 +144,16 @@ module _ (d : List ℕ) (r : Reader) (kept word : List ℕ) (w v : World) (g : P
         }
 
     -- it goes on, or the word is too long
-    stands_on : (c : Carried) (more : List ℕ) (carried : ℕ) (word₁ word' : List ℕ) → Carries more carried c word₁ word' → carried ≤ length word₁
+    stands_on : (c : Option ℕ) (more : List ℕ) (carried : ℕ) (word₁ word' : List ℕ) → Carries more carried c word₁ word' → carried ≤ length word₁
         → take carried word₁ ++ more ≡ opened (since ++ bytes) → Stands (d ++ bytes) (gone_on r body c) kept word' w u
-    stands_on c more carried word₁ word' k l e =
-        by_cases c.fits
-        (λ f. rw f (playing_on stage.Playing c.count word' (k.inside f) (k.front f ∙ e)))
-        (λ f. rw f (record {
-          front = d ++ bytes;
-          rest = [];
-          cut = sym (append-nil (d ++ bytes));
-          from = r.begun.next;
-          longer = omega (arith, k.long f, k.size, length-take-le carried word₁ l, ap length e, length-append (take carried word₁) more, ap (λ (x : List ℕ). length (opened x)) (since_more bytes));
-        }))
+    stands_on (Some n) more carried word₁ word' k l e = playing_on stage.Playing n word' k.cases.0 (k.cases.1 ∙ e)
+    stands_on None more carried word₁ word' k l e = record {
+      front = d ++ bytes;
+      rest = [];
+      cut = sym (append-nil (d ++ bytes));
+      from = r.begun.next;
+      longer = omega (arith, k.cases, k.size, length-take-le carried word₁ l, ap length e, length-append (take carried word₁) more, ap (λ (x : List ℕ). length (opened x)) (since_more bytes));
+    }
 
   -- the bytes before the first blank behind the open word
   module _ (bytes : List ℕ) (n : ℕ) (solid : n ≡ front is_solid bytes) where
@@ -167,17 +166,17 @@ module _ (d : List ℕ) (r : Reader) (kept word : List ℕ) (w v : World) (g : P
     open_start : opened (since ++ start) ≡ take r.carried word ++ start
     open_start = stays_open since start start_solid ∙ ap (λ (x : List ℕ). x ++ start) (sym g.carried_is)
 
-    pub word_long : (c : Carried) (word' : List ℕ) → Carries start r.carried c word word' → c.fits ≡ false → LongWord (d ++ bytes) (length word')
-    word_long c word' k f = record {
+    pub word_long : (word' : List ℕ) → Carries start r.carried None word word' → LongWord (d ++ bytes) (length word')
+    word_long word' k = record {
       front = d ++ start;
       rest = drop n bytes;
       cut = ap (λ (x : List ℕ). d ++ x) (sym (take-append-drop n bytes)) ∙ sym (append_assoc d start (drop n bytes));
       from = r.begun.next;
-      longer = omega (arith, k.long f, k.size, length-take-le r.carried word g.carried_in, ap length open_start, length-append (take r.carried word) start, ap (λ (x : List ℕ). length (opened x)) (since_more start));
+      longer = omega (arith, k.cases, k.size, length-take-le r.carried word g.carried_in, ap length open_start, length-append (take r.carried word) start, ap (λ (x : List ℕ). length (opened x)) (since_more start));
     }
 
     -- no blank: the word stays open
-    pub no_blank : (c : Carried) (word' : List ℕ) → Carries start r.carried c word word' → n ≡ length bytes
+    pub no_blank : (c : Option ℕ) (word' : List ℕ) → Carries start r.carried c word word' → n ≡ length bytes
         → Stands (d ++ bytes) (gone_on r r.body c) kept word' w v
     no_blank c word' k whole =
         let same = take_all n bytes (omega (arith, whole)) in
@@ -186,14 +185,14 @@ module _ (d : List ℕ) (r : Reader) (kept word : List ℕ) (w v : World) (g : P
         (sym open_start ∙ ap (λ (x : List ℕ). opened (since ++ x)) same)
 
     -- a blank: the word is closed, and then what is behind it
-    pub blank_there : (c : Carried) (word₁ : List ℕ) → Carries start r.carried c word word₁ → c.fits ≡ true → n < length bytes
-        → (t : Turn) (v₁ : World) → Plays codes (take c.count word₁) 0 true r.body t v v₁
-        → (s : Step) (word₂ : List ℕ) (u : World) → PlaysPart kept (gone_on r t.body c) bytes n s word₁ word₂ v₁ u
+    pub blank_there : (c : ℕ) (word₁ : List ℕ) → Carries start r.carried (Some c) word word₁ → n < length bytes
+        → (t : Turn) (v₁ : World) → Plays codes (take c word₁) 0 true r.body t v v₁
+        → (s : Step) (word₂ : List ℕ) (u : World) → PlaysPart kept (gone_on r t.body (Some c)) bytes n s word₁ word₂ v₁ u
         → Stands (d ++ bytes) s.reader kept word₂ w u
-    blank_there c word₁ k f h t v₁ p s word₂ u q =
-        let x = more_done codes (words (take c.count word₁)) (closed (drop n bytes)) r.body t.body v v₁ u p.body_is p.called q.called in
+    blank_there c word₁ k h t v₁ p s word₂ u q =
+        let x = more_done codes (words (take c word₁)) (closed (drop n bytes)) r.body t.body v v₁ u p.body_is p.called q.called in
         rw q.reader_is
-        (stands_on bytes (words (take c.count word₁) ++ closed (drop n bytes)) all (part_went kept (gone_on r t.body c) bytes n).body u x.0 x.1
+        (stands_on bytes (words (take c word₁) ++ closed (drop n bytes)) all (part_went kept (gone_on r t.body (Some c)) bytes n).body u x.0 x.1
         q.carried (opened (drop n bytes)) 0 word₁ word₂ q.carries (omega arith) (sym (opened_join (since ++ start) (drop n bytes) blank rest) ∙ ap opened split))
       where
         blank : front is_solid (drop n bytes) ≡ 0
@@ -205,10 +204,10 @@ module _ (d : List ℕ) (r : Reader) (kept word : List ℕ) (w v : World) (g : P
         split : (since ++ start) ++ drop n bytes ≡ since ++ bytes
         split = append_assoc since start (drop n bytes) ∙ ap (λ (x : List ℕ). since ++ x) (take-append-drop n bytes)
 
-        held_word : take c.count word₁ ≡ opened since ++ start
-        held_word = k.front f ∙ ap (λ (x : List ℕ). x ++ start) g.carried_is
+        held_word : take c word₁ ≡ opened since ++ start
+        held_word = k.cases.1 ∙ ap (λ (x : List ℕ). x ++ start) g.carried_is
 
-        all : closed (since ++ bytes) ≡ closed since ++ (words (take c.count word₁) ++ closed (drop n bytes))
+        all : closed (since ++ bytes) ≡ closed since ++ (words (take c word₁) ++ closed (drop n bytes))
         all = ap closed (sym split) ∙ closed_join (since ++ start) (drop n bytes) blank rest
             ∙ ap (λ (ws : List (List ℕ)). ws ++ closed (drop n bytes)) (words_cut since start ∙ ap (λ (x : List ℕ). closed since ++ words x) (sym held_word))
-            ∙ append_assoc (closed since) (words (take c.count word₁)) (closed (drop n bytes))
+            ∙ append_assoc (closed since) (words (take c word₁)) (closed (drop n bytes))

@@ -1,9 +1,10 @@
 -- However a dump is cut into parts, it comes to what it comes to whole: its refusal, and what its calls leave.
-use mathlib.Core.Path.{◌≡◌, refl, ◌∙◌}
+use mathlib.Core.Path.{◌≡◌, ◌∙◌}
 use mathlib.Core.Bool.{Bool, true, false, false≢true}
 use mathlib.Core.List.{List}
 use Prim.Native.Nat.{ℕ}
 use lib.ListN.{length}
+use Rattle.std.proofs.Common.{Ok}
 use Rattle.controller.specs.World.{World, Buffers}
 use Rattle.vcd.specs.Dump.{dump_refused, judged}
 use Rattle.vcd.specs.Played.{dump_played}
@@ -13,7 +14,6 @@ use Rattle.vcd_reading.specs.declared.reader.Stage.{Stage}
 use Rattle.vcd_reading.specs.declared.reader.Stage.TheVariants as stage
 use Rattle.vcd_reading.specs.declared.reader.Reader.{Reader}
 use Rattle.vcd_reading.specs.declared.closing.Closed.{Closed}
-use Rattle.vcd_reading.specs.declared.closing.Ending.TheVariants as ending
 use Rattle.vcd_reading.specs.Reading.{Closes}
 
 -- no limit was met
@@ -32,11 +32,11 @@ ends stage.WordTooLong d c w v u h k = absurd (false≢true h)
 -- a reader that stands behind the whole dump, from the configuration's making on, and its end
 module _ (config d : List ℕ) (b : Buffers) (r : Reader) (c : Closed) (v u : World) (size : length config ≡ 312) (whole : is_whole r.stage ≡ true)
     (k : Closes r.stage d c (config_made config b) v u) where
-  pub ending_is : c.ending ≡ ending.Judged (judged d)
+  pub ending_is : c.ending ≡ Ok (judged d)
   ending_is = (ends r.stage d c (config_made config b) v u whole k).0
 
   pub refused_is : dump_refused config d b ≡ number_by (judged d) (config_refused config b)
-  refused_is = number_is config d b size (judged d) refl
+  refused_is = number_is config d b size
 
   pub left_is : dump_refused config d b ≡ 0 → u ≡ dump_played config d b
   left_is e = (ends r.stage d c (config_made config b) v u whole k).1 ∙ whole_played config d b size e

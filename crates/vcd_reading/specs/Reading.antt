@@ -1,5 +1,5 @@
 -- 2026-01: a dump that is read part by part: what a reader and its two buffers stand for.
-use Rattle.std.specs.Prelude.{◌≡◌, List, [], ◌++◌, ℕ, ◌≤◌, ◌<◌, length, take, drop}
+use Rattle.std.specs.Prelude.{◌≡◌, List, [], ◌++◌, ℕ, ◌≤◌, ◌<◌, length, take, drop, Ok, Err}
 use Rattle.controller.specs.World.{World}
 use Rattle.vcd_words.specs.Words.{closed, opened}
 use Rattle.vcd_declarations.specs.declared.head.Begun.{Begun}
@@ -12,7 +12,7 @@ use Rattle.vcd_reading.specs.declared.reader.Stage.{Stage}
 use Rattle.vcd_reading.specs.declared.reader.Stage.TheVariants as stage
 use Rattle.vcd_reading.specs.declared.reader.Reader.{Reader}
 use Rattle.vcd_reading.specs.declared.closing.Closed.{Closed}
-use Rattle.vcd_reading.specs.declared.closing.Ending.TheVariants as ending
+use Rattle.vcd_reading.specs.declared.closing.Limit.TheVariants as limit
 
 -- the whole dump so far is kept
 pub record Heading (d : List ℕ) (held : ℕ) (kept : List ℕ) : Type 0 where
@@ -66,7 +66,7 @@ Stands d r kept word w v = StandsBy r.stage d r kept word w v
 
 -- at its end: what the dump comes to, and its calls made; or the limit that was met, and nothing done
 abbrev pub Closes : Stage → List ℕ → Closed → World → World → World → Type 0
-Closes stage.Heading d c w v u = (c.ending ≡ ending.Judged (judged d)) × (u ≡ calls (dump_events d) w)
-Closes stage.Playing d c w v u = (c.ending ≡ ending.Judged (judged d)) × (u ≡ calls (dump_events d) w)
-Closes stage.HeadTooLong d c w v u = (c.ending ≡ ending.HeadTooLong) × (u ≡ v)
-Closes stage.WordTooLong d c w v u = (c.ending ≡ ending.WordTooLong) × (u ≡ v)
+Closes stage.Heading d c w v u = (c.ending ≡ Ok (judged d)) × (u ≡ calls (dump_events d) w)
+Closes stage.Playing d c w v u = (c.ending ≡ Ok (judged d)) × (u ≡ calls (dump_events d) w)
+Closes stage.HeadTooLong d c w v u = (c.ending ≡ Err limit.HeadTooLong) × (u ≡ v)
+Closes stage.WordTooLong d c w v u = (c.ending ≡ Err limit.WordTooLong) × (u ≡ v)

@@ -6,39 +6,27 @@ ghost use Rattle.vcd_reading.specs.InnerCarried.{Carries};
 
 use vcd_words::next_word;
 
-// Whether a word fits, and how many bytes are carried.
-#[derive(Drop)]
-pub(crate) struct Carried {
-    pub(crate) fits: bool,
-    pub(crate) count: usize,
-}
-
-// More bytes of a word, behind those that are carried.
-pub(crate) fn extend(word: &mut [u8], carried: usize, bytes: &[u8]) -> Carried
+// More bytes of a word, behind those that are carried: how many there are then, if they fit.
+pub(crate) fn extend(word: &mut [u8], carried: usize, bytes: &[u8]) -> Option<usize>
     requires { carried ≤ length word.old }
     ensures { Carries bytes.now carried result word.old word.new }
 {
-    let room = word.len() - carried;
-    if room < bytes.len() {
-        return Carried {
-            fits: false,
-            count: carried,
-        };
+    if word.len() - carried < bytes.len() {
+        return None;
     }
-    let count = text::put(word, carried, bytes);
-    Carried { fits: true, count }
+    let end = carried + bytes.len();
+    word[carried..end].copy_from_slice(bytes);
+    Some(end)
 }
 
 // The word that is open at the end of some bytes, of which no word is closed from a place on.
-pub(crate) fn carry(word: &mut [u8], bytes: &[u8], at: usize) -> Carried
+pub(crate) fn carry(word: &mut [u8], bytes: &[u8], at: usize) -> Option<usize>
     requires at_in_bounds { at ≤ length bytes.now }
     requires bytes_value { closed (drop at bytes.now) ≡ [] }
     ensures { Carries (opened (drop at bytes.now)) 0 result word.old word.new }
 {
     let s = next_word(bytes, at);
-    let from = s.from;
-    let to = s.to;
-    extend(word, 0, &bytes[from..to])
+    extend(word, 0, &bytes[s.from..s.to])
 }
 
 // How many bytes stand before the first blank.

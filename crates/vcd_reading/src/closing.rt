@@ -1,32 +1,30 @@
 // The end of a dump that was read part by part.
 ghost use Rattle.std.specs.Prelude.{List, ℕ};
 ghost use Rattle.controller.specs.World.{World, world};
-ghost use Rattle.controller.specs.Lent.{before, after};
+ghost use Rattle.controller.specs.Lent.{before, after, Keeps};
 ghost use Rattle.vcd_reading.specs.Reading as rule;
 ghost use Rattle.vcd_reading.specs.InnerStep.{ClosesWords};
 ghost use Rattle.vcd_simulation.specs.Feed.{codes_by};
 
-use crate::reader::{Reader, Stage, first};
-use controller::Uc8253;
-use vcd::{Judged, verdict};
+use crate::reader::{Reader, Stage};
+use controller::{Lent, Uc8253};
+use vcd::{Fault, verdict};
 use vcd_declarations::{Begun, declarations};
 use vcd_playing::{finish, play_words};
 use vcd_simulation::{Body, begun};
 
-// What a dump came to.
+// Why a dump was not read to its end.
 #[derive(Clone, Copy)]
-pub enum Ending {
-    Judged(Judged),
-    // It was not read to its end.
+pub enum Limit {
     HeadTooLong,
     WordTooLong,
 }
 
-// The record after the last call.
+// The record after the last call, and what the dump came to: what turns it back, if anything does.
 #[derive(Clone, Copy)]
 pub struct Closed {
     pub chip: Uc8253,
-    pub ending: Ending,
+    pub ending: Result<Result<(), Fault>, Limit>,
 }
 
 // The last words, the advance at the end, and what turns the dump back.
@@ -37,82 +35,42 @@ fn close_words(
     at: usize,
     body: Body,
     p: Uc8253,
-    old: &mut [u8],
-    new: &mut [u8],
-    states: &mut [i64],
-    picture: &mut [u8],
-    rows: &mut [u64],
+    lent: &mut Lent<'_>,
 ) -> Closed
-    ensures { ClosesWords (codes_by head.now b.head) b bytes.now at body result
-        (world p (before old new states picture rows)) (world result.chip (after old new states picture rows)) }
+    ensures closes { ClosesWords (codes_by head.now b.head) b bytes.now at body result
+        (world p (before lent)) (world result.chip (after lent)) }
+    ensures same { Keeps lent }
 {
-    let h = b.head;
-    let t = play_words(
-        p, head, h, bytes, at, true, body, old, new, states, picture, rows,
-    );
-    let last = t.body;
-    let met = t.chip;
-    let chip = finish(met, last, old, new, states, picture, rows);
-    let judged = verdict(b, last);
-    let ending = Ending::Judged(judged);
+    let t = play_words(p, head, b.head, bytes, at, true, body, lent);
+    let chip = finish(t.chip, t.body, lent);
+    let ending = Ok(verdict(b, t.body));
     Closed { chip, ending }
 }
 
 // No part follows.
-pub fn close(
-    r: Reader,
-    p: Uc8253,
-    kept: &[u8],
-    word: &[u8],
-    old: &mut [u8],
-    new: &mut [u8],
-    states: &mut [i64],
-    picture: &mut [u8],
-    rows: &mut [u64],
-) -> Closed
-    ensures { (d : List ℕ) (w : World)
-        → rule.Stands d r kept.now word.now w (world p (before old new states picture rows))
-        → rule.Closes r.stage d result w (world p (before old new states picture rows))
-        (world result.chip (after old new states picture rows)) }
+pub fn close(r: Reader, p: Uc8253, kept: &[u8], word: &[u8], lent: &mut Lent<'_>) -> Closed
+    ensures closes { (d : List ℕ) (w : World)
+        → rule.Stands d r kept.now word.now w (world p (before lent))
+        → rule.Closes r.stage d result w (world p (before lent)) (world result.chip (after lent)) }
+    ensures same { Keeps lent }
 {
-    let stage = r.stage;
-    match stage {
+    let head = &kept[..r.held.min(kept.len())];
+    match r.stage {
         Stage::Heading => {
-            let b = declarations(first(kept, r.held));
-            close_words(
-                b,
-                first(kept, r.held),
-                first(kept, r.held),
-                b.next,
-                begun(),
-                p,
-                old,
-                new,
-                states,
-                picture,
-                rows,
-            )
+            let b = declarations(head);
+            close_words(b, head, head, b.next, begun(), p, lent)
         }
-        Stage::Playing => close_words(
-            r.begun,
-            first(kept, r.held),
-            first(word, r.carried),
-            0,
-            r.body,
-            p,
-            old,
-            new,
-            states,
-            picture,
-            rows,
-        ),
+        Stage::Playing => {
+            let open = &word[..r.carried.min(word.len())];
+            close_words(r.begun, head, open, 0, r.body, p, lent)
+        }
         Stage::HeadTooLong => Closed {
             chip: p,
-            ending: Ending::HeadTooLong,
+            ending: Err(Limit::HeadTooLong),
         },
         Stage::WordTooLong => Closed {
             chip: p,
-            ending: Ending::WordTooLong,
+            ending: Err(Limit::WordTooLong),
         },
     }
 }

@@ -9,6 +9,6 @@ mod closing;
 mod reader;
 mod reading;
 
-pub use closing::{Closed, Ending, close};
+pub use closing::{Closed, Limit, close};
 pub use reader::{Reader, Stage, start};
 pub use reading::{Step, part};

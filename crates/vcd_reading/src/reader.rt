@@ -1,8 +1,7 @@
 // What is known of a dump after some parts of it.
-ghost use Rattle.std.specs.Prelude.{◌≡◌, List, [], ℕ, take};
+ghost use Rattle.std.specs.Prelude.{List, [], ℕ};
 ghost use Rattle.controller.specs.World.{World};
 ghost use Rattle.vcd_reading.specs.Reading as rule;
-ghost use Rattle.vcd_reading.specs.InnerStep.{in_stage};
 
 use vcd_declarations::{Begun, declarations};
 use vcd_simulation::Body;
@@ -19,6 +18,7 @@ pub enum Stage {
     WordTooLong,
 }
 
+// How much of its two buffers counts stands here: no heap, so they are lent anew with each part.
 #[derive(Clone, Copy)]
 pub struct Reader {
     pub stage: Stage,
@@ -34,39 +34,11 @@ pub struct Reader {
 pub fn start() -> Reader
     ensures { (kept word : List ℕ) (w : World) → rule.Stands [] result kept word w w }
 {
-    let stage = Stage::Heading;
-    let begun = declarations(b"");
-    let body = vcd_simulation::begun();
     Reader {
-        stage,
+        stage: Stage::Heading,
         held: 0,
-        begun,
-        body,
+        begun: declarations(b""),
+        body: vcd_simulation::begun(),
         carried: 0,
-    }
-}
-
-// The first n bytes, or all where there are not so many.
-pub(crate) fn first(bytes: &[u8], n: usize) -> &[u8]
-    ensures { result.now ≡ take n bytes.now }
-{
-    if n <= bytes.len() {
-        return &bytes[..n];
-    }
-    bytes
-}
-
-// The reader in another stage.
-pub(crate) fn in_stage(r: Reader, stage: Stage) -> Reader
-    ensures { result ≡ in_stage stage r }
-{
-    let begun = r.begun;
-    let body = r.body;
-    Reader {
-        stage,
-        held: r.held,
-        begun,
-        body,
-        carried: r.carried,
     }
 }

@@ -1,15 +1,15 @@
 // One part more of a dump.
 ghost use Rattle.std.specs.Prelude.{◌≡◌, List, ◌++◌, ℕ, ◌≤◌, ◌<◌, length, take, drop};
 ghost use Rattle.controller.specs.World.{World, world};
-ghost use Rattle.controller.specs.Lent.{before, after};
+ghost use Rattle.controller.specs.Lent.{before, after, Keeps};
 ghost use Rattle.vcd_words.specs.Words.{closed};
 ghost use Rattle.vcd_declarations.specs.Begun.{Begins};
 ghost use Rattle.vcd_reading.specs.Reading as rule;
 ghost use Rattle.vcd_reading.specs.InnerStep as inner;
 
-use crate::carrying::{Carried, carry, extend, solid};
-use crate::reader::{Reader, Stage, first, in_stage};
-use controller::Uc8253;
+use crate::carrying::{carry, extend, solid};
+use crate::reader::{Reader, Stage};
+use controller::{Lent, Uc8253};
 use vcd_declarations::{Begun, declarations};
 use vcd_playing::play_words;
 use vcd_simulation::{Body, begun};
@@ -25,35 +25,26 @@ pub struct Step {
 fn is_playing(stage: Stage) -> bool
     ensures { result ≡ inner.is_playing stage }
 {
-    match stage {
-        Stage::Heading => false,
-        Stage::Playing => true,
-        Stage::HeadTooLong => false,
-        Stage::WordTooLong => false,
-    }
+    matches!(stage, Stage::Playing)
 }
 
-fn stage_after(fits: bool) -> Stage
-    ensures { result ≡ inner.stage_after fits }
+// With another body, and so many bytes of a word that is open, if it fits.
+fn gone_on(r: Reader, body: Body, carried: Option<usize>) -> Reader
+    ensures { result ≡ inner.gone_on r body carried }
 {
-    if fits {
-        return Stage::Playing;
-    }
-    Stage::WordTooLong
-}
-
-// With another body, and a word that is carried, if it fits.
-fn gone_on(r: Reader, body: Body, c: Carried) -> Reader
-    ensures { result ≡ inner.gone_on r body c }
-{
-    let stage = stage_after(c.fits);
-    let begun = r.begun;
-    Reader {
-        stage,
-        held: r.held,
-        begun,
-        body,
-        carried: c.count,
+    match carried {
+        Some(n) => Reader {
+            stage: Stage::Playing,
+            body,
+            carried: n,
+            ..r
+        },
+        None => Reader {
+            stage: Stage::WordTooLong,
+            body,
+            carried: 0,
+            ..r
+        },
     }
 }
 
@@ -65,37 +56,20 @@ fn play_part(
     bytes: &[u8],
     at: usize,
     word: &mut [u8],
-    old: &mut [u8],
-    new: &mut [u8],
-    states: &mut [i64],
-    picture: &mut [u8],
-    rows: &mut [u64],
+    lent: &mut Lent<'_>,
 ) -> Step
     requires { at ≤ length bytes.now }
-    ensures { inner.PlaysPart kept.now r bytes.now at result word.old word.new
-        (world p (before old new states picture rows)) (world result.chip (after old new states picture rows)) }
+    ensures plays { inner.PlaysPart kept.now r bytes.now at result word.old word.new
+        (world p (before lent)) (world result.chip (after lent)) }
+    ensures same { Keeps lent }
 {
-    let b = r.begun;
-    let h = b.head;
-    let t = play_words(
-        p,
-        first(kept, r.held),
-        h,
-        bytes,
-        at,
-        false,
-        r.body,
-        old,
-        new,
-        states,
-        picture,
-        rows,
-    );
-    let chip = t.chip;
-    let body = t.body;
-    let c = carry(word, bytes, t.next);
-    let reader = gone_on(r, body, c);
-    Step { reader, chip }
+    let head = &kept[..r.held.min(kept.len())];
+    let t = play_words(p, head, r.begun.head, bytes, at, false, r.body, lent);
+    let carried = carry(word, bytes, t.next);
+    Step {
+        reader: gone_on(r, t.body, carried),
+        chip: t.chip,
+    }
 }
 
 // A part after the declarations.
@@ -105,52 +79,32 @@ fn go_on(
     kept: &[u8],
     bytes: &[u8],
     word: &mut [u8],
-    old: &mut [u8],
-    new: &mut [u8],
-    states: &mut [i64],
-    picture: &mut [u8],
-    rows: &mut [u64],
+    lent: &mut Lent<'_>,
 ) -> Step
-    ensures { (d : List ℕ) (w : World) → rule.Playing d r kept.now word.old w (world p (before old new states picture rows))
-        → rule.Stands (d ++ bytes.now) result.reader kept.now word.new w
-        (world result.chip (after old new states picture rows)) }
+    ensures goes { (d : List ℕ) (w : World) → rule.Playing d r kept.now word.old w (world p (before lent))
+        → rule.Stands (d ++ bytes.now) result.reader kept.now word.new w (world result.chip (after lent)) }
+    ensures same { Keeps lent }
 {
     let n = solid(bytes);
     if word.len() < r.carried {
         return Step { reader: r, chip: p };
     }
-    let c = extend(word, r.carried, &bytes[..n]);
-    if !c.fits {
-        let reader = in_stage(r, Stage::WordTooLong);
+    let Some(carried) = extend(word, r.carried, &bytes[..n]) else {
+        let reader = Reader {
+            stage: Stage::WordTooLong,
+            ..r
+        };
         return Step { reader, chip: p };
-    }
+    };
     if n == bytes.len() {
-        let body = r.body;
-        let reader = gone_on(r, body, c);
+        let reader = gone_on(r, r.body, Some(carried));
         return Step { reader, chip: p };
     }
-    let b = r.begun;
-    let h = b.head;
-    let t = play_words(
-        p,
-        first(kept, r.held),
-        h,
-        first(word, c.count),
-        0,
-        true,
-        r.body,
-        old,
-        new,
-        states,
-        picture,
-        rows,
-    );
-    let chip = t.chip;
-    let body = t.body;
-    let q = gone_on(r, body, c);
-    play_part(
-        q, chip, kept, bytes, n, word, old, new, states, picture, rows,
-    )
+    let head = &kept[..r.held.min(kept.len())];
+    let open = &word[..carried];
+    let t = play_words(p, head, r.begun.head, open, 0, true, r.body, lent);
+    let q = gone_on(r, t.body, Some(carried));
+    play_part(q, t.chip, kept, bytes, n, word, lent)
 }
 
 // The declarations are over in the first bytes, and so many of a part were kept.
@@ -162,59 +116,28 @@ fn settle(
     bytes: &[u8],
     taken: usize,
     word: &mut [u8],
-    old: &mut [u8],
-    new: &mut [u8],
-    states: &mut [i64],
-    picture: &mut [u8],
-    rows: &mut [u64],
+    lent: &mut Lent<'_>,
 ) -> Step
     requires held_in_bounds { held ≤ length kept.now }
     requires taken_in_bounds { taken ≤ length bytes.now }
     requires begins { Begins (take held kept.now) b }
     requires nonzero { 0 < length (closed (drop b.next (take held kept.now))) }
-    ensures { rule.Stands (take held kept.now ++ drop taken bytes.now) result.reader kept.now word.new
-        (world p (before old new states picture rows)) (world result.chip (after old new states picture rows)) }
+    ensures stands { rule.Stands (take held kept.now ++ drop taken bytes.now) result.reader kept.now word.new
+        (world p (before lent)) (world result.chip (after lent)) }
+    ensures same { Keeps lent }
 {
-    let stage = Stage::Playing;
-    let body = begun();
     let r = Reader {
-        stage,
+        stage: Stage::Playing,
         held,
         begun: b,
-        body,
+        body: begun(),
         carried: 0,
     };
-    let s = play_part(
-        r,
-        p,
-        kept,
-        first(kept, held),
-        b.next,
-        word,
-        old,
-        new,
-        states,
-        picture,
-        rows,
-    );
-    let reader = s.reader;
-    let chip = s.chip;
-    let stage = reader.stage;
-    if is_playing(stage) {
-        return go_on(
-            reader,
-            chip,
-            kept,
-            &bytes[taken..],
-            word,
-            old,
-            new,
-            states,
-            picture,
-            rows,
-        );
+    let s = play_part(r, p, kept, &kept[..held], b.next, word, lent);
+    if is_playing(s.reader.stage) {
+        return go_on(s.reader, s.chip, kept, &bytes[taken..], word, lent);
     }
-    Step { reader, chip }
+    s
 }
 
 // A part while all bytes are kept.
@@ -224,41 +147,39 @@ fn keep(
     bytes: &[u8],
     kept: &mut [u8],
     word: &mut [u8],
-    old: &mut [u8],
-    new: &mut [u8],
-    states: &mut [i64],
-    picture: &mut [u8],
-    rows: &mut [u64],
+    lent: &mut Lent<'_>,
 ) -> Step
-    ensures { (d : List ℕ) → rule.Heading d r.held kept.old
+    ensures keeps { (d : List ℕ) → rule.Heading d r.held kept.old
         → rule.Stands (d ++ bytes.now) result.reader kept.new word.new
-        (world p (before old new states picture rows)) (world result.chip (after old new states picture rows)) }
+        (world p (before lent)) (world result.chip (after lent)) }
+    ensures same { Keeps lent }
 {
     if kept.len() < r.held {
         return Step { reader: r, chip: p };
     }
-    let held = text::put(kept, r.held, bytes);
-    let taken = held - r.held;
-    let b = declarations(first(kept, held));
-    let w = next_word(first(kept, held), b.next);
+    let taken = bytes.len().min(kept.len() - r.held);
+    let held = r.held + taken;
+    kept[r.held..held].copy_from_slice(&bytes[..taken]);
+    let front = &kept[..held];
+    let b = declarations(front);
+    let w = next_word(front, b.next);
     if w.to < held {
-        return settle(
-            b, held, p, kept, bytes, taken, word, old, new, states, picture, rows,
-        );
+        return settle(b, held, p, kept, bytes, taken, word, lent);
     }
-    let body = r.body;
     if taken == bytes.len() {
-        let stage = Stage::Heading;
         let reader = Reader {
-            stage,
+            stage: Stage::Heading,
             held,
             begun: b,
-            body,
             carried: 0,
+            ..r
         };
         return Step { reader, chip: p };
     }
-    let reader = in_stage(r, Stage::HeadTooLong);
+    let reader = Reader {
+        stage: Stage::HeadTooLong,
+        ..r
+    };
     Step { reader, chip: p }
 }
 
@@ -269,22 +190,16 @@ pub fn part(
     bytes: &[u8],
     kept: &mut [u8],
     word: &mut [u8],
-    old: &mut [u8],
-    new: &mut [u8],
-    states: &mut [i64],
-    picture: &mut [u8],
-    rows: &mut [u64],
+    lent: &mut Lent<'_>,
 ) -> Step
-    ensures { (d : List ℕ) (w : World)
-        → rule.Stands d r kept.old word.old w (world p (before old new states picture rows))
-        → rule.Stands (d ++ bytes.now) result.reader kept.new word.new w
-        (world result.chip (after old new states picture rows)) }
+    ensures stands { (d : List ℕ) (w : World)
+        → rule.Stands d r kept.old word.old w (world p (before lent))
+        → rule.Stands (d ++ bytes.now) result.reader kept.new word.new w (world result.chip (after lent)) }
+    ensures same { Keeps lent }
 {
-    let stage = r.stage;
-    match stage {
-        Stage::Heading => keep(r, p, bytes, kept, word, old, new, states, picture, rows),
-        Stage::Playing => go_on(r, p, kept, bytes, word, old, new, states, picture, rows),
-        Stage::HeadTooLong => Step { reader: r, chip: p },
-        Stage::WordTooLong => Step { reader: r, chip: p },
+    match r.stage {
+        Stage::Heading => keep(r, p, bytes, kept, word, lent),
+        Stage::Playing => go_on(r, p, kept, bytes, word, lent),
+        Stage::HeadTooLong | Stage::WordTooLong => Step { reader: r, chip: p },
     }
 }

@@ -1,12 +1,15 @@
 -- Newlines counted one by one; and the first word that breaks: the words read so far, which do not break, and then the next one.
 use mathlib.Core.Path.{◌≡◌, refl, sym, ap, ◌∙◌}
-use mathlib.Core.Bool.{true, false}
+use mathlib.Core.Bool.{true, false, cond}
 use mathlib.Core.List.{List, [], ◌∷◌, ◌++◌, append_assoc, append_cancel_right}
 use Prim.Native.Nat.{ℕ, ◌+◌, ◌≤◌, ◌<◌}
-use native.Mathlib.Numerals.{add-one}
 use native.Mathlib.Omega.{arith}
-use lib.ListN.{length, take, drop, get_or, drop_of_length-le, take-append-drop}
-use lib.Seq.{drop-cons, length-take-le, drop-append-le}
+use lib.ListN.{length, take, drop, take-append-drop}
+use lib.Seq.{length-take-le, drop-append-le}
+use lib.Dec.{eqb}
+use Rattle.std.specs.List.{count_by}
+use Rattle.std.proofs.lemmas.List.Recursion.{is_count_by}
+use Rattle.base.proofs.Cases.{by_cases}
 use Rattle.vcd_words.specs.Words.{words}
 use Rattle.vcd_words.specs.Places.{part}
 use Rattle.vcd_words.specs.declared.Span.{Span}
@@ -16,15 +19,14 @@ use Rattle.vcd_simulation.specs.declared.body.Body.{Body}
 use Rattle.vcd_simulation.specs.declared.feeding.Fed.{Fed}
 use Rattle.vcd_simulation.specs.Simulation.{Codes, Went, words_done}
 use Rattle.vcd_simulation.specs.Feed.{Feeds}
-use Rattle.vcd_reasons.specs.Finding.{is_broken, counted, newlines, Breaks}
+use Rattle.vcd_reasons.specs.Finding.{is_broken, newlines, Breaks}
 
 -- ---- newlines
-module _ (l : List ℕ) (i : ℕ) where
-  pub newlines_on : i < length l → newlines (drop i l) ≡ counted (get_or l i 0) + newlines (drop (i + 1) l)
-  newlines_on h = rw (add-one i) (ap newlines (drop-cons l i 0 h))
-
-  pub newlines_end : length l ≤ i → newlines (drop i l) ≡ 0
-  newlines_end h = ap newlines (drop_of_length-le l h)
+pub newlines_counted : (l : List ℕ) → newlines l ≡ count_by (λ b. eqb b 10) l
+newlines_counted l = is_count_by newlines (λ b. eqb b 10) refl step l
+  where
+    step : (b : ℕ) (l : List ℕ) → newlines (b ∷ l) ≡ cond (eqb b 10) (1 + newlines l) (newlines l)
+    step b l = by_cases (eqb b 10) (λ e. rw e) (λ e. rw e (omega arith))
 
 -- ---- words
 words_more : (codes : Codes) (ws : List (List ℕ)) (w : List ℕ) (b : Body)

@@ -1,5 +1,5 @@
 // Where a dump breaks.
-ghost use Rattle.std.specs.Prelude.{◌≡◌, ◌≤◌, ◌<◌};
+ghost use Rattle.std.specs.Prelude.{◌≡◌, ◌<◌};
 ghost use Rattle.vcd_simulation.specs.Feed.{codes_by};
 ghost use Rattle.vcd_reasons.specs.Finding as rule;
 
@@ -18,37 +18,15 @@ const FREE: usize = 20;
 pub fn is_broken(b: Body) -> bool
     ensures { result ≡ rule.is_broken b.wanted }
 {
-    let wanted = b.wanted;
-    match wanted {
-        Wanted::Command => false,
-        Wanted::Section => false,
-        Wanted::Text => false,
-        Wanted::Code(_) => false,
-        Wanted::SectionCode(_) => false,
-        Wanted::Broken => true,
-    }
-}
-
-fn counted(b: u8) -> u64
-    ensures { (result ≡ rule.counted b) × (result ≤ 1) }
-{
-    if b == NEWLINE {
-        return 1;
-    }
-    0
+    matches!(b.wanted, Wanted::Broken)
 }
 
 // How many newlines some bytes have.
+#[tactic(auto, using(crate::proofs::FindLaws::newlines_counted))]
 pub fn newlines(bytes: &[u8]) -> u64
     ensures { result ≡ rule.newlines bytes.now }
 {
-    let mut count: u64 = 0;
-    let mut i: usize = 0;
-    while i < bytes.len() {
-        count += counted(bytes[i]);
-        i += 1;
-    }
-    count
+    bytes.iter().filter(|b| **b == NEWLINE).count() as u64
 }
 
 // The first word, from a place on, after which the syntax is broken; one without bytes where there
@@ -59,21 +37,24 @@ pub fn first_broken(head: &[u8], h: Head, bytes: &[u8], at: usize, b: Body) -> S
     let mut out = [0u8; ROOM];
     let mut body = b;
     let mut next = at;
+    // A step is a word long, and its place is wanted: no plainer by an iterator.
     while next < bytes.len() {
         let w = next_word(bytes, next);
-        let to = w.to;
-        if w.from == to {
-            return Span { from: to, to };
+        if w.is_empty() {
+            return w;
         }
-        let f = feed(head, h, &bytes[..to], next, true, body, &mut out);
+        let f = feed(head, h, &bytes[..w.to], next, true, body, &mut out);
         if ROOM - FREE < f.held {
-            return Span { from: to, to };
+            return Span {
+                from: w.to,
+                to: w.to,
+            };
         }
         body = f.body;
         if is_broken(body) {
             return w;
         }
-        next = to;
+        next = w.to;
     }
     Span {
         from: next,

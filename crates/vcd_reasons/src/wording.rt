@@ -1,9 +1,9 @@
 // A dump's refusal in words, to stand behind its name: `: line 12: 5!`, `: clk missing`. No newline.
 ghost use Rattle.std.specs.Prelude.{◌≡◌, map};
-ghost use Rattle.text.specs.Text.{Puts};
+ghost use Rattle.text.specs.Text.{put};
 ghost use Rattle.vcd_reasons.specs.Wording as rule;
 
-use text::{byte, decimal, put};
+use text::Text;
 use vcd_declarations::{Begun, Head};
 use vcd_words::Span;
 
@@ -13,85 +13,63 @@ const SHOWN: usize = 40;
 fn visible(b: u8) -> u8
     ensures { result ≡ rule.visible b }
 {
-    if b < 33 {
-        return b'?';
-    }
-    if 126 < b {
-        return b'?';
-    }
-    b
+    if 33 <= b && b <= 126 { b } else { b'?' }
 }
 
 // Some bytes, `?` for each that is not printable.
-fn seen(text: &mut [u8], held: usize, bytes: &[u8]) -> usize
-    ensures { Puts (map rule.visible bytes.now) held result text.old text.new }
+#[tactic(auto, using(text::proofs::Filling::puts, crate::proofs::WordLaws::shown_more))]
+fn seen(text: &mut Text<'_>, bytes: &[u8])
+    ensures { text.new ≡ put (map rule.visible bytes.now) text.old }
 {
-    let mut n = put(text, held, b"");
-    let mut i: usize = 0;
-    while i < bytes.len() {
-        n = byte(text, n, visible(bytes[i]));
-        i += 1;
+    for b in bytes {
+        text.byte(visible(*b));
     }
-    n
 }
 
 // The first bytes of a word.
-fn shown(text: &mut [u8], held: usize, word: &[u8]) -> usize
-    ensures { Puts (rule.shown word.now) held result text.old text.new }
+#[tactic(auto, using(std::proofs::lemmas::List::take_min))]
+fn shown(text: &mut Text<'_>, word: &[u8])
+    ensures { text.new ≡ put (rule.shown word.now) text.old }
 {
-    if SHOWN < word.len() {
-        return seen(text, held, &word[..SHOWN]);
-    }
-    seen(text, held, word)
+    seen(text, &word[..SHOWN.min(word.len())]);
 }
 
 // A word of the simulation, and the line that it stands in.
-pub fn at_word(text: &mut [u8], held: usize, line: u64, word: &[u8]) -> usize
-    ensures { Puts (rule.at_word line word.now) held result text.old text.new }
+#[tactic(auto, using(text::proofs::Filling::puts))]
+pub fn at_word(text: &mut Text<'_>, line: u64, word: &[u8])
+    ensures { text.new ≡ put (rule.at_word line word.now) text.old }
 {
-    let head = put(text, held, b": line ");
-    let n = decimal(text, head, line);
-    let behind = put(text, n, b": ");
-    shown(text, behind, word)
+    text.put(b": line ");
+    text.decimal(line);
+    text.put(b": ");
+    shown(text, word);
 }
 
 // Whether the declarations alone do not make a dump malformed.
 pub fn is_declared_well(b: Begun) -> bool
     ensures { result ≡ rule.is_declared_well b }
 {
-    let h = b.head;
-    if h.broken {
-        return false;
-    }
-    if b.ended {
-        return h.scaled;
-    }
-    false
+    !b.head.broken && b.ended && b.head.scaled
 }
 
 // What is wrong with the declarations of a malformed dump.
-pub fn declared(text: &mut [u8], held: usize, b: Begun) -> usize
-    ensures { Puts (rule.declared b) held result text.old text.new }
+pub fn declared(text: &mut Text<'_>, b: Begun)
+    ensures { text.new ≡ put (rule.declared b) text.old }
 {
-    let h = b.head;
-    if h.broken {
-        return put(text, held, b": in the declarations");
+    if b.head.broken {
+        text.put(b": in the declarations");
+    } else if b.ended {
+        text.put(b": no timescale");
+    } else {
+        text.put(b": ends within a declaration");
     }
-    if b.ended {
-        return put(text, held, b": no timescale");
-    }
-    put(text, held, b": ends within a declaration")
 }
 
 // The simulation is not over at a dump's end.
-pub fn unfinished(text: &mut [u8], held: usize) -> usize
-    ensures { Puts rule.unfinished held result text.old text.new }
+pub fn unfinished(text: &mut Text<'_>)
+    ensures { text.new ≡ put rule.unfinished text.old }
 {
-    put(
-        text,
-        held,
-        b": ends within a section, a comment or a change",
-    )
+    text.put(b": ends within a section, a comment or a change");
 }
 
 fn is_none(s: Span) -> bool
@@ -101,28 +79,21 @@ fn is_none(s: Span) -> bool
 }
 
 // Which of the five signals is wrong, of a dump that is turned back for them.
-pub fn unsignalled(text: &mut [u8], held: usize, h: Head) -> usize
-    ensures { Puts (rule.unsignalled h) held result text.old text.new }
+pub fn unsignalled(text: &mut Text<'_>, h: Head)
+    ensures { text.new ≡ put (rule.unsignalled h) text.old }
 {
     let c = h.codes;
     if is_none(c.cs) {
-        return put(text, held, b": cs missing");
+        text.put(b": cs missing");
+    } else if is_none(c.dc) {
+        text.put(b": dc missing");
+    } else if is_none(c.clk) {
+        text.put(b": clk missing");
+    } else if is_none(c.mosi) {
+        text.put(b": mosi missing");
+    } else if is_none(c.rst) {
+        text.put(b": rst missing");
+    } else {
+        text.put(b": one of cs, dc, clk, mosi, rst is declared twice or wider than a bit");
     }
-    if is_none(c.dc) {
-        return put(text, held, b": dc missing");
-    }
-    if is_none(c.clk) {
-        return put(text, held, b": clk missing");
-    }
-    if is_none(c.mosi) {
-        return put(text, held, b": mosi missing");
-    }
-    if is_none(c.rst) {
-        return put(text, held, b": rst missing");
-    }
-    put(
-        text,
-        held,
-        b": one of cs, dc, clk, mosi, rst is declared twice or wider than a bit",
-    )
 }

@@ -2,80 +2,22 @@
 use mathlib.Core.Path.{◌≡◌, refl, sym, ap, ◌∙◌}
 use mathlib.Core.Bool.{Bool, true, false, false≢true}
 use mathlib.Core.List.{List, [], ◌∷◌, ◌++◌, append_assoc}
-use Prim.Native.Nat.{ℕ, ◌+◌, ◌-◌, ◌≤◌, ◌<◌}
+use Prim.Native.Nat.{ℕ, ◌+◌, ◌≤◌, ◌<◌}
 use native.Mathlib.Omega.{arith}
-use borrow.Author.Tests.{ltb-true, ltb-false, leb-true, leb-false}
-use lib.Dec.{ltb}
-use lib.ListN.{length, take, drop, length-append, length-drop, length-take, drop_of_length-le}
-use lib.Seq.{take_all, take-nil}
-use Rattle.base.specs.Pick.{pick}
-use Rattle.base.proofs.Cases.{by_cases}
+use borrow.Author.Tests.{leb-true, leb-false}
+use lib.ListN.{length, take, drop, length-append, length-take, drop_of_length-le}
 use Rattle.event.specs.declared.Event.{Event}
 use Rattle.vcd_words.specs.Words.{words, closed, opened, shut}
 use Rattle.vcd_words.specs.Places.{part}
 use Rattle.vcd_words.specs.declared.Span.{Span}
 use Rattle.vcd_words.proofs.SpanLaws.{Next}
-use Rattle.vcd_declarations.specs.declared.head.Head.{Head}
-use Rattle.vcd_declarations.specs.Codes.{code_in, Within, AllWithin}
-use Rattle.vcd_declarations.specs.Begun.{all_by}
 use Rattle.vcd_simulation.specs.declared.body.Body.{Body}
 use Rattle.vcd_simulation.specs.declared.word.Stepped.{Stepped}
-use Rattle.vcd_simulation.specs.declared.feeding.Fed.{Fed}
 use Rattle.vcd_simulation.specs.Simulation.{Codes, word_done, words_done}
 use Rattle.vcd_simulation.specs.Written.{written, Holds}
 use Rattle.vcd_simulation.specs.InnerSteps.{Steps}
-use Rattle.vcd_simulation.specs.InnerClip.{inside, head_inside, is_open}
-use Rattle.vcd_simulation.specs.Feed.{codes_by, words_by, behind, Feeds}
+use Rattle.vcd_simulation.specs.Feed.{words_by, is_open, behind, Feeds}
 use Rattle.vcd_simulation.proofs.Holding.{written_join, later}
-
--- ---- a place that is held to the bytes gives the same code
-inside_in : (n : ℕ) (s : Span) → Within (inside n s) n
-inside_in n s =
-    by_cases (ltb n s.to)
-    (λ e. rw e (from_in n (omega arith)))
-    (λ e. rw e (from_in s.to (ltb-false n s.to e)))
-  where
-    from_in : (t : ℕ) → t ≤ n → Within (record { from = pick (ltb t s.from) t s.from; to = t }) n
-    from_in t h =
-        by_cases (ltb t s.from)
-        (λ e. rw e (record { ordered = omega arith; inside = h }))
-        (λ e. rw e (record { ordered = ltb-false t s.from e; inside = h }))
-
-no_more : (bytes : List ℕ) (from k : ℕ) → length bytes ≤ from → take k (drop from bytes) ≡ []
-no_more bytes from k h = ap (take k) (drop_of_length-le bytes h) ∙ take-nil k
-
-whole : (bytes : List ℕ) (from k : ℕ) → length bytes - from ≤ k → take k (drop from bytes) ≡ drop from bytes
-whole bytes from k h = take_all k (drop from bytes) (omega (arith, h, length-drop from bytes))
-
-inside_same : (bytes : List ℕ) (s : Span) → code_in bytes (inside (length bytes) s) ≡ code_in bytes s
-inside_same bytes s =
-    by_cases (ltb (length bytes) s.to)
-    (λ e. rw e (long (ltb-true (length bytes) s.to e)))
-    (λ e. rw e short)
-  where
-    short : part bytes (pick (ltb s.to s.from) s.to s.from) s.to ≡ part bytes s.from s.to
-    short = by_cases (ltb s.to s.from)
-        (λ f. rw f (none s.to s.to (omega arith) ∙ sym (none s.from s.to (omega (arith, ltb-true s.to s.from f)))))
-        (λ f. rw f)
-      where
-        none : (a b : ℕ) → b ≤ a → part bytes a b ≡ []
-        none a b h = let z : b - a ≡ 0 = omega (arith, h) in ap (λ (k : ℕ). take k (drop a bytes)) z
-
-    long : length bytes < s.to → part bytes (pick (ltb (length bytes) s.from) (length bytes) s.from) (length bytes) ≡ part bytes s.from s.to
-    long h = by_cases (ltb (length bytes) s.from)
-        (λ f. rw f (no_more bytes (length bytes) (length bytes - length bytes) (omega arith)
-        ∙ sym (no_more bytes s.from (s.to - s.from) (omega (arith, ltb-true (length bytes) s.from f)))))
-        (λ f. rw f (whole bytes s.from (length bytes - s.from) (omega arith) ∙ sym (whole bytes s.from (s.to - s.from) (omega (arith, h)))))
-
-pub head_in : (n : ℕ) (h : Head) → AllWithin (head_inside n h).codes n
-head_in n h = let c = h.codes in
-    record { cs_in = inside_in n c.cs; dc_in = inside_in n c.dc; clk_in = inside_in n c.clk; mosi_in = inside_in n c.mosi; rst_in = inside_in n c.rst }
-
-pub head_same : (bytes : List ℕ) (h : Head) → codes_by bytes (head_inside (length bytes) h) ≡ codes_by bytes h
-unfolding all_by
-head_same bytes h =
-    let c = h.codes in
-    rw (inside_same bytes c.cs, inside_same bytes c.dc, inside_same bytes c.clk, inside_same bytes c.mosi, inside_same bytes c.rst)
 
 -- ---- so far
 pub record Feeding (codes : Codes) (bytes : List ℕ) (at : ℕ) (last : Bool) (b : Body) (next held : ℕ) (body : Body) (out out' : List ℕ) : Type 0 where
@@ -181,7 +123,3 @@ pub open_by_word : (bytes : List ℕ) (at : ℕ) (s : Span) → Next bytes at s 
     → last ≡ false → opened (drop at bytes) ≡ opened (drop s.to bytes)
 open_by_word bytes at s n true e h = absurd (false≢true (sym h))
 open_by_word bytes at s n false e h = n.keeps (leb-false (length bytes) s.to e)
-
-pub feeds_as : {codes codes' : Codes} {bytes : List ℕ} {at : ℕ} {last : Bool} {b : Body} {r : Fed} {out out' : List ℕ} → codes ≡ codes'
-    → Feeds codes bytes at last b r out out' → Feeds codes' bytes at last b r out out'
-feeds_as e f = rw (← e) f

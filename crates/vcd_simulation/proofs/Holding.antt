@@ -1,22 +1,16 @@
 -- Bytes put into a buffer: one, none, and some behind others.
 use mathlib.Core.Path.{◌≡◌, refl, sym, ap, ◌∙◌}
 use mathlib.Core.List.{List, [], ◌∷◌, ◌++◌, append_assoc, append-nil}
-use Prim.Native.Nat.{ℕ, ◌+◌, ◌<◌}
+use Prim.Native.Nat.{ℕ, zero, suc, ◌+◌, ◌/◌, ◌%◌, ◌^◌}
+use native.Mathlib.Nat.{pow-suc}
+use Rattle.std.proofs.Math.Nat.{div-div-eq-div-mul, div-one}
+use Rattle.std.specs.Int.{byte_at, bytes_low_first}
 use native.Mathlib.Nat.{add-zero}
-use native.Mathlib.Numerals.{add-one}
 use native.Mathlib.Omega.{arith}
-use lib.ListN.{length, take, drop, set, length-set, length-append}
-use lib.Seq.{take-suc-set, drop-set-lt, drop-drop}
+use lib.ListN.{length, take, drop, length-append}
+use lib.Seq.{drop-drop}
 use Rattle.event.specs.declared.Event.{Event}
-use Rattle.vcd_simulation.specs.Written.{event_bytes, written, Holds}
-
-pub one_held : (b : List ℕ) (held x : ℕ) → held < length b → Holds (x ∷ []) held (held + 1) b (set b held x)
-one_held b held x h = record {
-  bytes = ap (λ (n : ℕ). take n (set b held x)) (add-one held) ∙ take-suc-set b held x h;
-  count = refl;
-  size = length-set b held x;
-  rest = drop-set-lt (held + 1) b held x (omega arith);
-}
+use Rattle.vcd_simulation.specs.Written.{lowest, event_bytes, written, Holds}
 
 pub none_held : (b : List ℕ) (held : ℕ) → Holds [] held held b b
 none_held b held = record { bytes = sym (append-nil (take held b)); count = sym (add-zero held); size = refl; rest = refl }
@@ -43,3 +37,16 @@ one_written e = sym (append-nil (event_bytes e))
 pub written_join : (es fs : List Event) → written (es ++ fs) ≡ written es ++ written fs
 written_join [] fs = refl
 written_join (e ∷ es) fs = ap (λ (l : List ℕ). event_bytes e ++ l) (written_join es fs) ∙ sym (append_assoc (event_bytes e) (written es) (written fs))
+
+-- the bytes of a number, the lowest first
+byte_is : (i x : ℕ) → byte_at i x ≡ x / 256 ^ i % 256
+byte_is zero x = ap (λ (y : ℕ). y % 256) (sym (div-one x))
+byte_is (suc i) x = refl
+
+low_from : (i k x : ℕ) → bytes_low_first i k x ≡ lowest k (x / 256 ^ i)
+low_from i zero x = refl
+low_from i (suc k) x =
+    rw (byte_is i x, low_from (suc i) k x, pow-suc 256 i, ← div-div-eq-div-mul x (256 ^ i) 256)
+
+pub low_bytes : (x : ℕ) → bytes_low_first 0 8 x ≡ lowest 8 x
+low_bytes x = low_from 0 8 x ∙ ap (lowest 8) (div-one x)

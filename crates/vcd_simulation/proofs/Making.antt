@@ -4,11 +4,11 @@ use mathlib.Core.Bool.{Bool, true, false, ◌&&◌}
 use mathlib.Core.List.{List, [], ◌∷◌, ◌++◌, append-nil}
 use Prim.Native.Nat.{ℕ, ◌≤◌}
 use native.Mathlib.Omega.{arith}
-use borrow.Author.Tests.{eq-eqb, ne_eqb}
+use borrow.Author.Tests.{eq-eqb, ne_eqb, eqb-true, eqb-false}
 use lib.Dec.{eqb}
 use lib.ListN.{length, get_or}
 use Rattle.base.specs.Pick.{pick}
-use Rattle.base.proofs.Cases.{both}
+use Rattle.base.proofs.Cases.{both, by_cases}
 use Rattle.event.specs.declared.Event.{Event}
 use Rattle.vcd_words.specs.Words.{alike}
 use Rattle.vcd_bus.specs.declared.Bus.{Bus}
@@ -17,10 +17,19 @@ use Rattle.vcd_simulation.specs.Coded.{after_code, code_makes}
 use Rattle.vcd_simulation.specs.Written.{event_bytes, written}
 use Rattle.vcd_simulation.proofs.Holding.{one_written, written_join}
 
+pub alike_turned : (v w : List ℕ) → alike v w ≡ alike w v
+alike_turned [] [] = refl
+alike_turned [] (b ∷ w) = refl
+alike_turned (a ∷ v) [] = refl
+alike_turned (a ∷ v) (b ∷ w) = rw (turned a b, alike_turned v w)
+  where
+    turned : (x y : ℕ) → eqb x y ≡ eqb y x
+    turned x y = by_cases (eqb x y) (λ e. rw (eqb-true x y e)) (λ e. e ∙ sym (ne_eqb y x (λ h. eqb-false x y e (sym h))))
+
 -- ---- the event of `clk`
-pub byte_made : (t v : ℕ) (b : Bus) (kind value : ℕ) → takes v b ≡ true → b.bits ≡ 7 → kind ≡ byte_kind b.dc → value ≡ shifted b
+pub byte_made : (t v : ℕ) (b : Bus) (kind value : ℕ) → (takes v b && eqb b.bits 7) ≡ true → kind ≡ byte_kind b.dc → value ≡ shifted b
     → event_bytes (record { time = t; kind = kind; value = value }) ≡ written (byte_events t v b)
-byte_made t v b kind value taken last k x = rw (taken, eq-eqb b.bits 7 last, k, x) (one_written _)
+byte_made t v b kind value last k x = rw (last, k, x) (one_written _)
 
 pub no_byte : (t v : ℕ) (b : Bus) → (takes v b && eqb b.bits 7) ≡ false → [] ≡ written (byte_events t v b)
 no_byte t v b e = rw e

@@ -6,6 +6,7 @@ use Prim.Native.Nat.{ℕ, ◌<◌}
 use lib.ListN.{length, drop}
 use Rattle.base.proofs.Cases.{by_cases}
 use Rattle.vcd_words.specs.Words.{alike, among, closed}
+use Rattle.std.specs.Prelude.{Option, Some, None}
 use Rattle.vcd_values.specs.Levels.{level}
 use Rattle.vcd_declarations.specs.declared.head.Begun.{Begun}
 use Rattle.vcd_declarations.specs.Codes.{five_in}
@@ -15,7 +16,7 @@ use Rattle.vcd_simulation.specs.declared.body.Wanted.{Wanted}
 use Rattle.vcd_simulation.specs.declared.body.Wanted.TheVariants as want
 use Rattle.vcd_simulation.specs.declared.body.Body.{Body}
 use Rattle.vcd_simulation.specs.Feed.{codes_by}
-use Rattle.vcd_simulation.specs.Simulation.{Codes, changes, is_code, code_word, next_of, value_word, command_word, word_by, word_done, words_done}
+use Rattle.vcd_simulation.specs.Simulation.{Codes, changes, is_code, code_word, next_of, joined, value_word, command_word, word_by, word_done, words_done}
 
 pub record Same (c d : Codes) : Type 0 where
   pub five_same : c.five ≡ d.five
@@ -24,7 +25,7 @@ pub record Same (c d : Codes) : Type 0 where
 module _ (c d : Codes) (s : Same c d) where
   changes_same : (next : Wanted) (code : List ℕ) (v : ℕ) (b : Body) → alike code [] ≡ false → changes c next code v b ≡ changes d next code v b
   unfolding changes
-  changes_same next code v b e = rw (s.all_same code e, s.five_same)
+  changes_same x code v b e = rw (s.all_same code e, s.five_same)
 
   code_some : (code : List ℕ) → is_code code ≡ true → alike code [] ≡ false
   unfolding is_code
@@ -34,10 +35,14 @@ module _ (c d : Codes) (s : Same c d) where
   code_same : (next : Wanted) (code : List ℕ) (v : ℕ) (b : Body) → code_word c next code v b ≡ code_word d next code v b
   code_same next code v b = by_cases (is_code code) (λ e. rw e (changes_same next code v b (code_some code e))) (λ e. rw e)
 
+  joined_same : (section : Bool) (x : ℕ) (w : List ℕ) (b : Body) (v : Option ℕ) → joined c section x w b v ≡ joined d section x w b v
+  joined_same section x w b (Some v) = code_same (next_of section) w v b
+  joined_same section x w b None = refl
+
   value_same : (section : Bool) (w : List ℕ) (b : Body) → value_word c section w b ≡ value_word d section w b
   unfolding value_word
   value_same section [] b = refl
-  value_same section (x ∷ w) b = rw (code_same (next_of section) w (level x) b)
+  value_same section (x ∷ w) b = joined_same section x w b (level x)
 
   command_same : (w : List ℕ) (b : Body) → command_word c w b ≡ command_word d w b
   unfolding command_word

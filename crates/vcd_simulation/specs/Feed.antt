@@ -1,5 +1,5 @@
 -- Words of the simulation in some bytes, with their events in a buffer.
-use Rattle.std.specs.Prelude.{◌≡◌, Bool, false, List, [], ◌++◌, ℕ, ◌+◌, ◌≤◌, ◌<◌, length, take, drop}
+use Rattle.std.specs.Prelude.{◌≡◌, Bool, false, not, ◌&&◌, leb, List, [], ◌++◌, ℕ, ◌+◌, ◌≤◌, ◌<◌, length, take, drop}
 use Rattle.base.specs.Pick.{pick}
 use Rattle.event.specs.declared.Event.{Event}
 use Rattle.vcd_words.specs.Words.{words, closed, opened}
@@ -18,6 +18,10 @@ codes_by head h = record { five = five_in head h.codes; all = all_by head h }
 -- the words of some bytes; the last one counts where the dump ends with it
 abbrev pub words_by : Bool → List ℕ → List (List ℕ)
 words_by last bytes = pick last (words bytes) (closed bytes)
+
+-- a word that ends with the bytes, unless the dump ends there
+abbrev pub is_open : Bool → ℕ → ℕ → Bool
+is_open last to n = not last && leb n to
 
 -- what went before, and then the rest
 abbrev pub behind : List Event → Went → Went

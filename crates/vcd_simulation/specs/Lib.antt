@@ -2,5 +2,4 @@ pub mod Coded
 pub mod Written
 pub mod Simulation
 pub mod InnerSteps
-pub mod InnerClip
 pub mod Feed

@@ -1,14 +1,11 @@
 -- IEEE 1364, Value Change Dump: the simulation commands, word by word, and what the request makes of them.
-use Rattle.std.specs.Prelude.{Bool, true, false, ◌&&◌, not, List, [], ◌∷◌, ◌++◌, ℕ, eqb, ltb}
+use Rattle.std.specs.Prelude.{Bool, true, false, ◌&&◌, not, List, [], ◌∷◌, ◌++◌, ℕ, eqb, ltb, Option, Some, None}
 use Rattle.base.specs.Pick.{pick, one_of}
 use Rattle.text.specs.Text.{ascii}
 use Rattle.event.specs.declared.Event.{Event}
 use Rattle.vcd_words.specs.Words.{words, alike, among, printable}
 use Rattle.vcd_values.specs.Numbers.{time_of, is_real}
-use Rattle.vcd_values.specs.declared.numbers.Time.{Time}
-use Rattle.vcd_values.specs.declared.numbers.Time.TheVariants.{At}
-use Rattle.vcd_values.specs.declared.numbers.Time.TheVariants as time
-use Rattle.vcd_values.specs.Levels.{level, vector_level, unknown, no_level}
+use Rattle.vcd_values.specs.Levels.{level, vector_level, unknown}
 use Rattle.vcd_declarations.specs.Declarations.{is_end}
 use Rattle.vcd_simulation.specs.declared.body.Wanted.{Wanted}
 use Rattle.vcd_simulation.specs.declared.body.Wanted.TheVariants as want
@@ -66,25 +63,30 @@ abbrev pub later_of : Bool → ℕ → Wanted
 later_of section v = pick section (want.SectionCode v) (want.Code v)
 
 -- b and digits, or r and a real number, whose code is the next word
-abbrev pub real_level : List ℕ → ℕ
-real_level w = pick (is_real w) unknown no_level
+abbrev pub real_level : List ℕ → Option ℕ
+real_level w = pick (is_real w) (Some unknown) None
 
-abbrev pub apart_level : ℕ → List ℕ → ℕ
-apart_level c w = pick (one_of (0x42 ∷ 0x62 ∷ []) c) (vector_level w) (pick (one_of (0x52 ∷ 0x72 ∷ []) c) (real_level w) no_level)
+abbrev pub apart_level : ℕ → List ℕ → Option ℕ
+apart_level c w = pick (one_of (0x42 ∷ 0x62 ∷ []) c) (vector_level w) (pick (one_of (0x52 ∷ 0x72 ∷ []) c) (real_level w) None)
 
-abbrev pub apart : Bool → ℕ → Body → Went
-apart section v b = pick (eqb v no_level) (breaks b) (goes (later_of section v) b)
+abbrev pub apart : Bool → Option ℕ → Body → Went
+apart section (Some v) b = goes (later_of section v) b
+apart section None b = breaks b
 
--- a value change: a digit and the code, joined; or one of these
+-- a level and its code, joined; or one of these
+abbrev pub joined : Codes → Bool → ℕ → List ℕ → Body → Option ℕ → Went
+joined codes section c w b (Some v) = code_word codes (next_of section) w v b
+joined codes section c w b None = apart section (apart_level c w) b
+
+-- a value change: a digit and the code; or one of these
 unfoldable pub value_word : Codes → Bool → List ℕ → Body → Went
 value_word codes section [] b = breaks b
-value_word codes section (c ∷ w) b =
-    pick (ltb (level c) no_level) (code_word codes (next_of section) w (level c) b) (apart section (apart_level c w) b)
+value_word codes section (c ∷ w) b = joined codes section c w b (level c)
 
 -- # and a time, which does not go back
-abbrev pub timed : Time → Body → Went
-timed time.Broken b = breaks b
-timed (At t) b = pick (ltb t b.now) (breaks b) (record { body = record { wanted = want.Command; now = t; bus = b.bus }; events = [] })
+abbrev pub timed : Option ℕ → Body → Went
+timed None b = breaks b
+timed (Some t) b = pick (ltb t b.now) (breaks b) (record { body = record { wanted = want.Command; now = t; bus = b.bus }; events = [] })
 
 -- `$comment` with any words, or a section of value changes, each up to `$end`
 unfoldable pub key_word : List ℕ → Body → Went

@@ -13,7 +13,8 @@ pub enum Wanted {
     Section,
     // Any word of a comment, or its end.
     Text,
-    // The code of a vector or a real number with that level; and the same in a section.
+    // The code of a vector or a real number with that level; and the same in a section. A level is a
+    // number: what may not change, as callers of `feed` hand any in.
     Code(u8),
     SectionCode(u8),
     // The syntax was broken.
@@ -32,12 +33,10 @@ pub struct Body {
 pub fn begun() -> Body
     ensures { result ≡ rule.begun }
 {
-    let wanted = Wanted::Command;
-    let bus = quiet();
     Body {
-        wanted,
+        wanted: Wanted::Command,
         now: 0,
-        bus,
+        bus: quiet(),
     }
 }
 
@@ -45,13 +44,5 @@ pub fn begun() -> Body
 pub fn is_over(b: Body) -> bool
     ensures { result ≡ rule.is_over b.wanted }
 {
-    let wanted = b.wanted;
-    match wanted {
-        Wanted::Command => true,
-        Wanted::Section => false,
-        Wanted::Text => false,
-        Wanted::Code(_) => false,
-        Wanted::SectionCode(_) => false,
-        Wanted::Broken => false,
-    }
+    matches!(b.wanted, Wanted::Command)
 }

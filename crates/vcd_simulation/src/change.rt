@@ -1,17 +1,16 @@
 // A level for the signals of a code: what it does to the bus, and the events that it makes.
-ghost use Rattle.std.specs.Prelude.{◌≡◌, [], ◌+◌, ◌≤◌, length};
+ghost use Rattle.std.specs.Prelude.{◌≡◌, ◌&&◌, [], ◌+◌, ◌≤◌, eqb, length};
 ghost use Rattle.base.specs.Pick.{pick};
-ghost use Rattle.vcd_declarations.specs.Codes.{five_in, AllWithin};
+ghost use Rattle.vcd_declarations.specs.Codes.{five_in};
 ghost use Rattle.vcd_bus.specs.Signals as rule;
 ghost use Rattle.vcd_simulation.specs.Coded as coded;
 ghost use Rattle.vcd_simulation.specs.Written.{written, Holds};
 
-use crate::codes::is_code;
 use crate::emit::emit;
 use capture::{COMMAND, DATA, RESET};
 use event::Event;
 use vcd_bus::{Bus, clocked, on_cs, on_dc, on_mosi, reset, shifted, takes};
-use vcd_declarations::Codes;
+use vcd_declarations::{Codes, is_code};
 
 // The bus after a change, and how many bytes of events are held.
 #[derive(Clone, Copy)]
@@ -29,6 +28,13 @@ fn byte_kind(dc: u8) -> u8
     if dc == 0 { COMMAND } else { DATA }
 }
 
+// Whether a level of `clk` takes the last bit of a byte.
+fn ends_byte(b: Bus, v: u8) -> bool
+    ensures { result ≡ (rule.takes v b && eqb b.bits 7) }
+{
+    takes(b, v) && b.bits == LAST_BIT
+}
+
 // `clk` takes a level: the eighth bit makes a byte.
 fn clock(b: Bus, v: u8, time: u64, out: &mut [u8], held: usize) -> Changed
     requires { held + 10 ≤ length out.old }
@@ -36,18 +42,15 @@ fn clock(b: Bus, v: u8, time: u64, out: &mut [u8], held: usize) -> Changed
         × Holds (written (rule.byte_events time v b)) held result.held out.old out.new }
 {
     let bus = clocked(b, v);
-    if takes(b, v) {
-        if b.bits == LAST_BIT {
-            let e = Event {
-                time,
-                kind: byte_kind(b.dc),
-                value: shifted(b),
-            };
-            let more = emit(out, held, e);
-            return Changed { bus, held: more };
-        }
+    if !ends_byte(b, v) {
         return Changed { bus, held };
     }
+    let e = Event {
+        time,
+        kind: byte_kind(b.dc),
+        value: shifted(b),
+    };
+    let held = emit(out, held, e);
     Changed { bus, held }
 }
 
@@ -57,9 +60,10 @@ fn on_clk(b: Bus, hit: bool, v: u8, time: u64, out: &mut [u8], held: usize) -> C
         × Holds (written (pick hit (rule.byte_events time v b) [])) held result.held out.old out.new }
 {
     if hit {
-        return clock(b, v, time, out, held);
+        clock(b, v, time, out, held)
+    } else {
+        Changed { bus: b, held }
     }
-    Changed { bus: b, held }
 }
 
 fn reset_value(v: u8) -> u8
@@ -83,8 +87,8 @@ fn edge(b: Bus, v: u8, time: u64, out: &mut [u8], held: usize) -> Changed
         kind: RESET,
         value: reset_value(v),
     };
-    let more = emit(out, held, e);
-    Changed { bus, held: more }
+    let held = emit(out, held, e);
+    Changed { bus, held }
 }
 
 fn on_rst(b: Bus, hit: bool, v: u8, time: u64, out: &mut [u8], held: usize) -> Changed
@@ -93,9 +97,10 @@ fn on_rst(b: Bus, hit: bool, v: u8, time: u64, out: &mut [u8], held: usize) -> C
         × Holds (written (pick hit (rule.reset_events time v b) [])) held result.held out.old out.new }
 {
     if hit {
-        return edge(b, v, time, out, held);
+        edge(b, v, time, out, held)
+    } else {
+        Changed { bus: b, held }
     }
-    Changed { bus: b, held }
 }
 
 // The five, in the order named.
@@ -109,8 +114,7 @@ pub(crate) fn change(
     out: &mut [u8],
     held: usize,
 ) -> Changed
-    requires all_within { AllWithin codes (length head.now) }
-    requires held_in_bounds { held + 20 ≤ length out.old }
+    requires { held + 20 ≤ length out.old }
     ensures { (result.bus ≡ coded.after_code (five_in head.now codes) code.now 5 v b)
         × Holds (written (coded.code_makes (five_in head.now codes) code.now 5 time v b)) held result.held
         out.old out.new }
@@ -118,7 +122,6 @@ pub(crate) fn change(
     let b1 = on_cs(b, is_code(head, codes.cs, code), v);
     let b2 = on_dc(b1, is_code(head, codes.dc, code), v);
     let c = on_clk(b2, is_code(head, codes.clk, code), v, time, out, held);
-    let b3 = c.bus;
-    let b4 = on_mosi(b3, is_code(head, codes.mosi, code), v);
+    let b4 = on_mosi(c.bus, is_code(head, codes.mosi, code), v);
     on_rst(b4, is_code(head, codes.rst, code), v, time, out, c.held)
 }

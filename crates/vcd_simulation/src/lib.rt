@@ -4,7 +4,6 @@
 
 mod body;
 mod change;
-mod codes;
 mod emit;
 mod feeding;
 mod word;

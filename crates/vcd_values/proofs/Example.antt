@@ -6,38 +6,38 @@ use Prim.Native.Nat.{ℕ}
 use Prim.Native.String.{String}
 use Rattle.text.specs.Text.{ascii}
 use Rattle.vcd_words.specs.Words.{closed, opened, words}
-use Rattle.vcd_values.specs.declared.numbers.Time.TheVariants as time
-use Rattle.vcd_values.specs.declared.numbers.Size.TheVariants as size
+use Rattle.std.specs.Prelude.{Option, Some, None}
+use Rattle.vcd_values.specs.declared.times.Width.TheVariants.{Bit, Wide}
 use Rattle.vcd_values.specs.Numbers.{value_of, time_of, size_of, is_real}
 use Rattle.vcd_values.specs.Levels.{level, vector_level}
 use Rattle.vcd_values.specs.Names.{name_of, signal_of}
 
 -- ---- times: the value counts, not the length
-pub times : (time_of (ascii "0") ≡ time.At 0)
-    × (time_of (ascii "000") ≡ time.At 0)
-    × (time_of (ascii "0042") ≡ time.At 42)
-    × (time_of (ascii "18446744073709551615") ≡ time.At 18_446_744_073_709_551_615)
-    × (time_of (ascii "0000000018446744073709551615") ≡ time.At 18_446_744_073_709_551_615)
+pub times : (time_of (ascii "0") ≡ Some 0)
+    × (time_of (ascii "000") ≡ Some 0)
+    × (time_of (ascii "0042") ≡ Some 42)
+    × (time_of (ascii "18446744073709551615") ≡ Some 18_446_744_073_709_551_615)
+    × (time_of (ascii "0000000018446744073709551615") ≡ Some 18_446_744_073_709_551_615)
 unfolding time_of value_of
 times = (refl, refl, refl, refl, refl)
 
-pub no_times : (time_of [] ≡ time.Broken)
-    × (time_of (ascii "18446744073709551616") ≡ time.Broken)
-    × (time_of (ascii "0018446744073709551616") ≡ time.Broken)
-    × (time_of (ascii "-1") ≡ time.Broken)
-    × (time_of (ascii "1e3") ≡ time.Broken)
+pub no_times : (time_of [] ≡ None)
+    × (time_of (ascii "18446744073709551616") ≡ None)
+    × (time_of (ascii "0018446744073709551616") ≡ None)
+    × (time_of (ascii "-1") ≡ None)
+    × (time_of (ascii "1e3") ≡ None)
 unfolding time_of value_of
 no_times = (refl, refl, refl, refl, refl)
 
 -- ---- sizes
-pub sizes : (size_of (ascii "0") ≡ size.Bit)
-    × (size_of (ascii "1") ≡ size.Bit)
-    × (size_of (ascii "01") ≡ size.Bit)
-    × (size_of (ascii "2") ≡ size.Wide)
-    × (size_of (ascii "10") ≡ size.Wide)
-    × (size_of (ascii "18446744073709551616") ≡ size.Wide)
-    × (size_of [] ≡ size.Broken)
-    × (size_of (ascii "1x") ≡ size.Broken)
+pub sizes : (size_of (ascii "0") ≡ Some Bit)
+    × (size_of (ascii "1") ≡ Some Bit)
+    × (size_of (ascii "01") ≡ Some Bit)
+    × (size_of (ascii "2") ≡ Some Wide)
+    × (size_of (ascii "10") ≡ Some Wide)
+    × (size_of (ascii "18446744073709551616") ≡ Some Wide)
+    × (size_of [] ≡ None)
+    × (size_of (ascii "1x") ≡ None)
 unfolding size_of value_of
 sizes = (refl, refl, refl, refl, refl, refl, refl, refl)
 
@@ -68,10 +68,15 @@ unfolding is_real
 no_reals = (refl, refl, refl, refl, refl, refl, refl, refl, refl)
 
 -- ---- vectors, by the last digit
-abbrev vector : String → ℕ
+abbrev vector : String → Option ℕ
 vector s = vector_level (ascii s)
 
-pub vectors : (vector "x1" ≡ 1) × (vector "1x" ≡ 2) × (vector "z0" ≡ 0) × (vector "0Z" ≡ 2) × (vector "" ≡ 3) × (vector "211" ≡ 3)
+pub vectors : (vector "x1" ≡ Some 1)
+    × (vector "1x" ≡ Some 2)
+    × (vector "z0" ≡ Some 0)
+    × (vector "0Z" ≡ Some 2)
+    × (vector "" ≡ None)
+    × (vector "211" ≡ None)
 unfolding vector_level level
 vectors = (refl, refl, refl, refl, refl, refl)
 

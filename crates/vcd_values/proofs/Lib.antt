@@ -2,7 +2,6 @@ pub mod Parts
 pub mod NumberLaws
 pub mod ReadBack
 pub mod RealLaws
-pub mod LevelLaws
 pub mod SelectLaws
 pub mod WordLaws
 pub mod NameLaws

@@ -6,17 +6,16 @@ use Prim.Native.Nat.{ℕ, zero, suc, ◌+◌, ◌-◌, ◌*◌, ◌/◌, ◌%◌
 use native.Mathlib.Nat.{not-suc-le-zero}
 use native.Mathlib.Decide.{dec_le}
 use native.Mathlib.Omega.{arith}
-use lib.Dec.{eqb, ltb}
+use lib.Dec.{ltb}
 use lib.ListN.{length, length-append}
 use borrow.Author.Tests.{lt-ltb, ltb-true}
-use Rattle.base.specs.Pick.{pick, one_of}
+use Rattle.base.specs.Pick.{pick}
 use Rattle.base.proofs.Cases.{by_cases}
 use Rattle.text.specs.Text.{ascii, digits}
 use Rattle.text.proofs.Digits.{value, digits_one, digits_more, digits_value}
 use Rattle.vcd_words.specs.Words.{alike, every}
-use Rattle.vcd_values.specs.declared.numbers.Time.TheVariants as time
+use Rattle.std.specs.Prelude.{Some, None}
 use Rattle.vcd_values.specs.Numbers.{is_digit, is_number, value_from, value_of, time_of}
-use Rattle.vcd_values.specs.Levels.{level, vector_from, vector_level}
 use Rattle.vcd_values.specs.Names.{signal_of}
 use Rattle.vcd_values.proofs.NumberLaws.{limit, digit_is, number_every}
 
@@ -55,44 +54,29 @@ pub value_digits : (x : ℕ) → value_of (digits x) ≡ x
 unfolding value_of
 value_digits x = value_same 0 (digits x) ∙ digits_value x
 
-pub time_digits : (x : ℕ) → x < limit → time_of (digits x) ≡ time.At x
+pub time_digits : (x : ℕ) → x < limit → time_of (digits x) ≡ Some x
 unfolding time_of
 time_digits x h = rw (number_digits x, value_digits x, lt-ltb x limit h)
 
 -- ---- bounds
-pub time_fits : (w : List ℕ) (n : ℕ) → time_of w ≡ time.At n → n < limit
+pub time_fits : (w : List ℕ) (n : ℕ) → time_of w ≡ Some n → n < limit
 unfolding time_of
 time_fits w n h =
     by_cases (is_number w)
     (λ e. by_cases (ltb (value_of w) limit)
-    (λ f. let g : time_of w ≡ time.At (value_of w) = rw (e, f) in
+    (λ f. let g : time_of w ≡ Some (value_of w) = rw (e, f) in
     let v : value_of w ≡ n = cc in
     omega (arith, ltb-true (value_of w) limit f))
-    (λ f. let g : time_of w ≡ time.Broken = rw (e, f) in
+    (λ f. let g : time_of w ≡ None = rw (e, f) in
     let z : ◌≡◌ {A = ℕ} 0 1 = cc in
     absurd (omega arith)))
-    (λ e. let g : time_of w ≡ time.Broken = rw e in
+    (λ e. let g : time_of w ≡ None = rw e in
     let z : ◌≡◌ {A = ℕ} 0 1 = cc in
     absurd (omega arith))
 
 either : (m : ℕ) (t : Bool) (a b : ℕ) → a ≤ m → b ≤ m → pick t a b ≤ m
 either m true a b h k = h
 either m false a b h k = k
-
-pub level_most : (b : ℕ) → level b ≤ 3
-unfolding level
-level_most b =
-    either 3 (eqb b 48) 0 _ (omega arith)
-    (either 3 (eqb b 49) 1 _ (omega arith)
-    (either 3 (one_of (0x58 ∷ 0x5a ∷ 0x78 ∷ 0x7a ∷ []) b) 2 3 (omega arith) (omega arith)))
-
-vector_from_lem : (n : ℕ) (w : List ℕ) → n ≤ 3 → vector_from n w ≤ 3
-vector_from_lem n [] h = h
-vector_from_lem n (b ∷ w) h = either 3 (eqb (level b) 3) 3 _ (omega arith) (vector_from_lem (level b) w (level_most b))
-
-pub vector_most : (w : List ℕ) → vector_level w ≤ 3
-unfolding vector_level
-vector_most w = vector_from_lem 3 w (omega arith)
 
 pub signal_most : (name : List ℕ) → signal_of name ≤ 6
 unfolding signal_of

@@ -2,22 +2,19 @@
 use mathlib.Core.Path.{◌≡◌, refl, ◌∙◌}
 use mathlib.Core.Bool.{Bool, true, false, ◌&&◌, ◌||◌}
 use mathlib.Core.List.{List, [], ◌∷◌}
-use Prim.Native.Nat.{ℕ, suc, ◌+◌, ◌≤◌, ◌<◌}
+use Prim.Native.Nat.{ℕ, suc, ◌≤◌}
 use native.Mathlib.Omega.{arith}
-use native.Mathlib.Numerals.{add-one}
 use lib.Dec.{eqb, ltb}
-use lib.ListN.{length, get_or, drop, drop_of_length-le}
-use lib.Seq.{drop-cons}
+use lib.ListN.{length, drop, drop_of_length-le}
 use borrow.Author.Tests.{eqb-true, lt-ltb}
-use Rattle.base.specs.Pick.{pick}
 use Rattle.base.proofs.Cases.{by_cases}
-use Rattle.vcd_words.specs.Words.{is_blank, alike}
+use Rattle.vcd_words.specs.Words.{alike}
 use Rattle.vcd_values.specs.declared.selects.State.{State}
 use Rattle.vcd_values.specs.declared.selects.State.TheVariants.{Before, First, FirstSigned, FirstDigits}
 use Rattle.vcd_values.specs.declared.selects.State.TheVariants.{Second, SecondSigned, SecondDigits, Closed, Wrong}
 use Rattle.vcd_values.specs.Numbers.{is_digit, leading, past_digits}
 use Rattle.vcd_values.specs.Names.{has_index, past_index, is_closing, is_range, is_select}
-use Rattle.vcd_values.specs.Selects.{next, run, is_before, is_closed, solid}
+use Rattle.vcd_values.specs.Selects.{next, run, is_before, is_closed}
 
 -- what may stand behind the first index, and behind the second
 abbrev behind : Bool → List ℕ → Bool
@@ -96,6 +93,9 @@ pub left_run : (s : State) (w : List ℕ) → left s w ≡ is_closed (run s w)
 left_run s [] = left_none s
 left_run s (b ∷ w) = left_next s b w ∙ left_run (next s b) w
 
+pub select_run : (w : List ℕ) → is_select w ≡ is_closed (run Before w)
+select_run w = left_run Before w
+
 begun : (s : State) (b : ℕ) → is_before (next s b) ≡ false
 begun Before b = by_cases (eqb b 91) (λ e. rw e) (λ e. rw e)
 begun First b = by_cases (eqb b 45) (λ e. rw e) (λ e. rw e (by_cases (is_digit b) (λ d. rw d) (λ d. rw d)))
@@ -114,19 +114,29 @@ pub run_begun : (s : State) (b : ℕ) (w : List ℕ) → is_before (run s (b ∷
 run_begun s b [] = begun s b
 run_begun s b (d ∷ w) = run_begun (next s b) d w
 
--- ---- from place to place
-module _ (s : State) (w : List ℕ) (i : ℕ) where
-  pub left_byte : i < length w → left s (drop i w) ≡ left (next s (get_or w i 0)) (drop (i + 1) w)
-  left_byte h = rw (drop-cons w i 0 h, add-one i) (left_next s (get_or w i 0) (drop (suc i) w))
+-- ---- what a state is not
+pub before_not : (s : State) → (s ≡ Before → ⊥) → is_before s ≡ false
+before_not Before n = absurd (n refl)
+before_not First n = refl
+before_not FirstSigned n = refl
+before_not FirstDigits n = refl
+before_not Second n = refl
+before_not SecondSigned n = refl
+before_not SecondDigits n = refl
+before_not Closed n = refl
+before_not Wrong n = refl
 
-  pub left_end : length w ≤ i → left s (drop i w) ≡ is_closed s
-  left_end h = rw (drop_of_length-le w h) (left_none s)
+pub closed_not : (s : State) → (s ≡ Closed → ⊥) → is_closed s ≡ false
+closed_not Before n = refl
+closed_not First n = refl
+closed_not FirstSigned n = refl
+closed_not FirstDigits n = refl
+closed_not Second n = refl
+closed_not SecondSigned n = refl
+closed_not SecondDigits n = refl
+closed_not Closed n = absurd (n refl)
+closed_not Wrong n = refl
 
-  pub run_byte : i < length w
-      → run s (solid (drop i w)) ≡ run (pick (is_blank (get_or w i 0)) s (next s (get_or w i 0))) (solid (drop (i + 1) w))
-  run_byte h =
-      rw (drop-cons w i 0 h, add-one i)
-      (by_cases (is_blank (get_or w i 0)) (λ e. rw e) (λ e. rw e))
-
-  pub run_end : length w ≤ i → run s (solid (drop i w)) ≡ s
-  run_end h = rw (drop_of_length-le w h)
+-- ---- at the end
+pub run_over : (s : State) (w : List ℕ) (i : ℕ) → length w ≤ i → run s (drop i w) ≡ s
+run_over s w i h = rw (drop_of_length-le w h)

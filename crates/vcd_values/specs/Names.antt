@@ -1,8 +1,12 @@
 -- The reference of a variable: its name, and perhaps a bit or a range of it.
-use Rattle.std.specs.Prelude.{Bool, false, ◌&&◌, ◌||◌, List, [], ◌∷◌, ◌++◌, ℕ, suc, ◌-◌, eqb, ltb, length, take, drop, get_or}
+use Rattle.std.specs.Prelude.{Bool, false, ◌&&◌, ◌||◌, List, [], ◌∷◌, ◌++◌, ℕ, suc, ◌-◌, eqb, ltb, length, take, drop, get_or, Option, Some, None}
 use Rattle.base.specs.Pick.{pick}
 use Rattle.text.specs.Text.{ascii}
 use Rattle.vcd_words.specs.Words.{alike}
+use Rattle.vcd_values.specs.declared.names.Pin.{Pin}
+use Rattle.vcd_values.specs.declared.names.Pin.TheVariants.{Cs, Dc, Clk, Mosi, Rst}
+use Rattle.vcd_values.specs.declared.names.Name.{Name}
+use Rattle.vcd_values.specs.declared.names.Name.TheVariants as name
 use Rattle.vcd_values.specs.Numbers.{leading, past_digits}
 
 -- what follows a minus, if there is one
@@ -71,6 +75,18 @@ other_signal = 5
 
 abbrev pub no_name : ℕ
 no_name = 6
+
+abbrev pub pin_number : Pin → ℕ
+pin_number Cs = 0
+pin_number Dc = 1
+pin_number Clk = 2
+pin_number Mosi = 3
+pin_number Rst = 4
+
+abbrev pub name_number : Option Name → ℕ
+name_number None = no_name
+name_number (Some (name.Of s)) = pin_number s
+name_number (Some name.Other) = other_signal
 
 unfoldable pub signal_of : List ℕ → ℕ
 signal_of name =

@@ -1,14 +1,10 @@
 -- Decimal numbers, and the real numbers of a dump.
-use Rattle.std.specs.Prelude.{Bool, true, false, ◌&&◌, ◌||◌, List, [], ◌∷◌, ℕ, suc, ◌+◌, ◌-◌, ◌*◌, eqb, ltb, drop}
+use Rattle.std.specs.Prelude.{Bool, true, false, ◌&&◌, ◌||◌, List, [], ◌∷◌, ℕ, suc, ◌+◌, ◌-◌, ◌*◌, eqb, ltb, drop, Option, Some, None}
 use Rattle.base.specs.Pick.{pick, between}
 use Rattle.text.specs.Text.{ascii}
 use Rattle.vcd_words.specs.Words.{alike, every}
-use Rattle.vcd_values.specs.declared.numbers.Time.{Time}
-use Rattle.vcd_values.specs.declared.numbers.Time.TheVariants.{At}
-use Rattle.vcd_values.specs.declared.numbers.Time.TheVariants as time
-use Rattle.vcd_values.specs.declared.numbers.Size.{Size}
-use Rattle.vcd_values.specs.declared.numbers.Size.TheVariants.{Bit, Wide}
-use Rattle.vcd_values.specs.declared.numbers.Size.TheVariants as size
+use Rattle.vcd_values.specs.declared.times.Width.{Width}
+use Rattle.vcd_values.specs.declared.times.Width.TheVariants.{Bit, Wide}
 
 -- 0 to 9
 abbrev pub is_digit : ℕ → Bool
@@ -68,9 +64,9 @@ unfoldable pub is_real : List ℕ → Bool
 is_real w = is_nameless (past_sign w) || (ltb 0 (leading (past_sign w)) && is_fraction (past_digits (past_sign w)))
 
 -- a time: a number of 64 bits
-unfoldable pub time_of : List ℕ → Time
-time_of w = pick (is_number w && ltb (value_of w) 0x1_0000_0000_0000_0000) (At (value_of w)) time.Broken
+unfoldable pub time_of : List ℕ → Option ℕ
+time_of w = pick (is_number w && ltb (value_of w) 0x1_0000_0000_0000_0000) (Some (value_of w)) None
 
 -- a size: 0 and 1 are no wider than a bit
-unfoldable pub size_of : List ℕ → Size
-size_of w = pick (is_number w) (pick (ltb 1 (value_of w)) Wide Bit) size.Broken
+unfoldable pub size_of : List ℕ → Option Width
+size_of w = pick (is_number w) (Some (pick (ltb 1 (value_of w)) Wide Bit)) None

@@ -9,8 +9,7 @@ mod reals;
 mod selects;
 mod times;
 
-pub use levels::{NO_LEVEL, UNKNOWN, level, vector_level};
-pub use names::{CLK, CS, DC, MOSI, NO_NAME, OTHER, RST, signal};
-pub use numbers::{Size, Time};
+pub use levels::{UNKNOWN, level, vector_level};
+pub use names::{Name, Pin, signal};
 pub use reals::is_real;
-pub use times::{size, time};
+pub use times::{Width, size, time};

@@ -1,43 +1,18 @@
 // Decimal numbers: what they are read for, and their digits.
-ghost use Rattle.std.specs.Prelude.{◌≡◌, ltb};
+ghost use Rattle.std.specs.Prelude.{◌≡◌, length, ltb, take_while};
 ghost use Rattle.vcd_values.specs.Numbers as rule;
-
-// A time, or what is none: no number, or one of more than 64 bits.
-#[derive(Clone, Copy)]
-pub enum Time {
-    At(u64),
-    Broken,
-}
-
-// A size: no wider than a bit, wider, or no number.
-#[derive(Clone, Copy)]
-pub enum Size {
-    Bit,
-    Wide,
-    Broken,
-}
 
 pub(crate) fn is_digit(b: u8) -> bool
     ensures { result ≡ rule.is_digit b }
 {
-    if b < b'0' {
-        return false;
-    }
-    b <= b'9'
+    b.is_ascii_digit()
 }
 
 // How many digits a word begins with.
-pub(crate) fn leading(word: &[u8]) -> usize
-    ensures { result ≡ rule.leading word.now }
+fn leading(word: &[u8]) -> usize
+    ensures { result ≡ length (take_while rule.is_digit word.now) }
 {
-    let mut i: usize = 0;
-    while i < word.len() {
-        if !is_digit(word[i]) {
-            return i;
-        }
-        i += 1;
-    }
-    i
+    word.iter().take_while(|b| is_digit(**b)).count()
 }
 
 pub(crate) fn has_digits(word: &[u8]) -> bool
@@ -56,8 +31,5 @@ pub(crate) fn past_digits(word: &[u8]) -> &[u8]
 pub(crate) fn is_number(word: &[u8]) -> bool
     ensures { result ≡ rule.is_number word.now }
 {
-    if word.len() == 0 {
-        return false;
-    }
-    leading(word) == word.len()
+    !word.is_empty() && leading(word) == word.len()
 }

@@ -27,20 +27,14 @@ pub(crate) enum State {
 fn digit(b: u8, digits: State) -> State
     ensures { result ≡ machine.digit digits b }
 {
-    if is_digit(b) {
-        return digits;
-    }
-    State::Wrong
+    if is_digit(b) { digits } else { State::Wrong }
 }
 
 // A minus or a digit.
 fn index(b: u8, signed: State, digits: State) -> State
     ensures { result ≡ machine.index signed digits b }
 {
-    if b == b'-' {
-        return signed;
-    }
-    digit(b, digits)
+    if b == b'-' { signed } else { digit(b, digits) }
 }
 
 // The ].
@@ -48,54 +42,28 @@ fn close(b: u8) -> State
     ensures { result ≡ machine.close b }
 {
     if b == b']' {
-        return State::Closed;
+        State::Closed
+    } else {
+        State::Wrong
     }
-    State::Wrong
-}
-
-fn behind_first(b: u8) -> State
-    ensures { result ≡ machine.next State.FirstDigits b }
-{
-    if is_digit(b) {
-        return State::FirstDigits;
-    }
-    if b == b':' {
-        return State::Second;
-    }
-    close(b)
-}
-
-fn behind_second(b: u8) -> State
-    ensures { result ≡ machine.next State.SecondDigits b }
-{
-    if is_digit(b) {
-        return State::SecondDigits;
-    }
-    close(b)
-}
-
-fn open(b: u8) -> State
-    ensures { result ≡ machine.next State.Before b }
-{
-    if b == b'[' {
-        return State::First;
-    }
-    State::Wrong
 }
 
 fn next(state: State, b: u8) -> State
     ensures { result ≡ machine.next state b }
 {
     match state {
-        State::Before => open(b),
+        State::Before if b == b'[' => State::First,
+        State::Before => State::Wrong,
         State::First => index(b, State::FirstSigned, State::FirstDigits),
         State::FirstSigned => digit(b, State::FirstDigits),
-        State::FirstDigits => behind_first(b),
+        State::FirstDigits if is_digit(b) => State::FirstDigits,
+        State::FirstDigits if b == b':' => State::Second,
+        State::FirstDigits => close(b),
         State::Second => index(b, State::SecondSigned, State::SecondDigits),
         State::SecondSigned => digit(b, State::SecondDigits),
-        State::SecondDigits => behind_second(b),
-        State::Closed => State::Wrong,
-        State::Wrong => State::Wrong,
+        State::SecondDigits if is_digit(b) => State::SecondDigits,
+        State::SecondDigits => close(b),
+        State::Closed | State::Wrong => State::Wrong,
     }
 }
 
@@ -103,54 +71,17 @@ fn next(state: State, b: u8) -> State
 fn next_solid(state: State, b: u8) -> State
     ensures { result ≡ pick (is_blank b) state (machine.next state b) }
 {
-    if is_blank(b) {
-        return state;
-    }
-    next(state, b)
-}
-
-pub(crate) fn is_before(state: State) -> bool
-    ensures { result ≡ machine.is_before state }
-{
-    match state {
-        State::Before => true,
-        State::First => false,
-        State::FirstSigned => false,
-        State::FirstDigits => false,
-        State::Second => false,
-        State::SecondSigned => false,
-        State::SecondDigits => false,
-        State::Closed => false,
-        State::Wrong => false,
-    }
-}
-
-pub(crate) fn is_closed(state: State) -> bool
-    ensures { result ≡ machine.is_closed state }
-{
-    match state {
-        State::Before => false,
-        State::First => false,
-        State::FirstSigned => false,
-        State::FirstDigits => false,
-        State::Second => false,
-        State::SecondSigned => false,
-        State::SecondDigits => false,
-        State::Closed => true,
-        State::Wrong => false,
-    }
+    if is_blank(b) { state } else { next(state, b) }
 }
 
 pub(crate) fn is_select(word: &[u8]) -> bool
     ensures { result ≡ rule.is_select word.now }
 {
     let mut state = State::Before;
-    let mut i: usize = 0;
-    while i < word.len() {
-        state = next(state, word[i]);
-        i += 1;
+    for b in word {
+        state = next(state, *b);
     }
-    is_closed(state)
+    matches!(state, State::Closed)
 }
 
 // Bytes with blanks anywhere between them.
@@ -158,10 +89,8 @@ pub(crate) fn read(bytes: &[u8]) -> State
     ensures { result ≡ machine.run State.Before (machine.solid bytes.now) }
 {
     let mut state = State::Before;
-    let mut i: usize = 0;
-    while i < bytes.len() {
-        state = next_solid(state, bytes[i]);
-        i += 1;
+    for b in bytes {
+        state = next_solid(state, *b);
     }
     state
 }

@@ -1,7 +1,7 @@
 -- Where the next word of some bytes lies.
-use Rattle.std.specs.Prelude.{Bool, not, List, [], ◌∷◌, ℕ, suc, ◌+◌, ◌-◌, take, drop}
+use Rattle.std.specs.Prelude.{◌≡◌, Bool, not, List, [], ◌∷◌, ℕ, suc, ◌+◌, ◌-◌, ◌<◌, length, take, drop}
 use Rattle.base.specs.Pick.{pick}
-use Rattle.vcd_words.specs.Words.{is_blank}
+use Rattle.vcd_words.specs.Words.{is_blank, words}
 use Rattle.vcd_words.specs.declared.Span.{Span}
 
 -- how many bytes at the front pass a test
@@ -25,3 +25,8 @@ span_at bytes at = record { from = word_from bytes at; to = word_to bytes (word_
 -- the bytes from one place up to another
 abbrev pub part : List ℕ → ℕ → ℕ → List ℕ
 part bytes from to = take (to - from) (drop from bytes)
+
+-- some bytes are a word and what follows it
+pub record Splits (bytes word rest : List ℕ) : Type 0 where
+  pub words_are : words bytes ≡ word ∷ words rest
+  pub shorter : length rest < length bytes

@@ -1,5 +1,6 @@
 -- Value Change Dump (IEEE 1364, four-state): a dump is words with white space between them.
 use Rattle.std.specs.Prelude.{Bool, true, false, ◌&&◌, List, [], ◌∷◌, ◌++◌, ℕ, eqb}
+use Rattle.std.specs.List.{list_all}
 use Rattle.base.specs.Pick.{pick, between}
 
 -- white space: bytes 9 to 13 and 32
@@ -45,8 +46,7 @@ among (v ∷ vs) w = pick (alike w v) true (among vs w)
 
 -- every byte of a word passes a test
 abbrev pub every : (ℕ → Bool) → List ℕ → Bool
-every t [] = true
-every t (b ∷ w) = t b && every t w
+every t w = list_all t w
 
 -- bytes 33 to 126, of which all words but those of a text are made
 unfoldable pub printable : List ℕ → Bool

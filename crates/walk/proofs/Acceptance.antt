@@ -1,4 +1,5 @@
 -- The table of acceptance, proved: what computes is proved in its line, what takes more before it.
+use Rattle.std.proofs.Common.{None, Some}
 use mathlib.Core.Path.{◌≡◌, refl, sym, ap, subst, ◌∙◌}
 use mathlib.Core.Bool.{false}
 use mathlib.Core.List.{List, [], ◌∷◌}
@@ -31,8 +32,7 @@ use Rattle.controller.specs.declared.Current.TheVariants as current
 use Rattle.controller.specs.declared.Operation.{Operation}
 use Rattle.controller.specs.declared.Power.TheVariants as power
 use Rattle.controller.specs.declared.Uc8253.{Uc8253}
-use Rattle.controller.specs.declared.reads.Read.{Read}
-use Rattle.controller.specs.declared.reads.Read.TheVariants.{Byte, Nothing}
+use Rattle.controller.specs.Maybe.{Read}
 use Rattle.controller.specs.World.{World, Buffers}
 use Rattle.controller.specs.Setters.{mode_of}
 use Rattle.controller.specs.Arrives.{timed, rest, ended_by, ended, arrived}
@@ -183,13 +183,13 @@ module _ (c : ℕ) (bs : List ℕ) (gives : (p : Uc8253) → Rested p → bytes_
   answers_listed (t ∷ ts) n w s u =
       λ i. answer t n w s u i ∷ answers_listed ts (min (n + 1) 65535) (did (reading t) w) (read_sound t w s) (read_under t n w s u) i
 
-  last_answer : (m u : ℕ) → m ≤ 65535 → ((n : ℕ) → m ≤ n → byte_at bs n ≡ Nothing)
-      → (ts : List ℕ) (n : ℕ) (w : World) → Sound w → Under c n w.chip → m ≤ n + length ts → read_answer u (after_reads ts w) ≡ Nothing
+  last_answer : (m u : ℕ) → m ≤ 65535 → ((n : ℕ) → m ≤ n → byte_at bs n ≡ None)
+      → (ts : List ℕ) (n : ℕ) (w : World) → Sound w → Under c n w.chip → m ≤ n + length ts → read_answer u (after_reads ts w) ≡ None
   last_answer m u most none [] n w s o h = answer u n w s o ∙ none n (omega arith)
   last_answer m u most none (t ∷ ts) n w s o h =
       last_answer m u most none ts (min (n + 1) 65535) (did (reading t) w) (read_sound t w s) (read_under t n w s o) (omega arith)
 
-past_70 : (n : ℕ) → 5 ≤ n → byte_at identity n ≡ Nothing
+past_70 : (n : ℕ) → 5 ≤ n → byte_at identity n ≡ None
 past_70 zero h = absurd (omega arith)
 past_70 (suc zero) h = absurd (omega arith)
 past_70 (suc (suc zero)) h = absurd (omega arith)

@@ -1,4 +1,5 @@
 -- The controller after a soft reset by 00: the command that it keeps has had its byte, after every call.
+use Rattle.std.proofs.Common.{None, Some}
 use mathlib.Core.Path.{◌≡◌, refl, ap, ◌∙◌}
 use mathlib.Core.Bool.{Bool, true, false, not, ◌&&◌}
 use mathlib.Core.List.{[], ◌∷◌}
@@ -21,8 +22,7 @@ use Rattle.controller.specs.declared.Active.{Active}
 use Rattle.controller.specs.declared.Current.{Current}
 use Rattle.controller.specs.declared.Current.TheVariants as current
 use Rattle.controller.specs.declared.Uc8253.{Uc8253}
-use Rattle.controller.specs.declared.notes.Note.{Note}
-use Rattle.controller.specs.declared.notes.Note.TheVariants.{Quiet, Told}
+use Rattle.controller.specs.Maybe.{Note}
 use Rattle.controller.specs.declared.uses.Use.{Use}
 use Rattle.controller.specs.declared.uses.Use.TheVariants as use-for
 use Rattle.controller.specs.Arrives.{timed, ended_by, ended, arrived}
@@ -62,8 +62,8 @@ apt_arrived t p q = ap (λ s. apt s.current) (stage_ended (timed t p)) ∙ q
 -- ---- a command: ignored, or anew with no byte
 refreshed_stage : (n : Note) (p : Uc8253) → (drv.refreshed_by own n p).stage ≡ p.stage
 unfolding drv.refresh_started
-refreshed_stage Quiet p = refl
-refreshed_stage (Told k) p = refl
+refreshed_stage None p = refl
+refreshed_stage (Some k) p = refl
 
 executed_stage : (c : ℕ) (p : Uc8253) → (cmd.executed own c p).stage ≡ p.stage
 unfolding cmd.executed drv.refreshed
@@ -89,8 +89,8 @@ sorted_apt (kind.Write n) c p e =
 sorted_apt kind.Read c p e = ap (λ s. apt s.current) (executed_stage c (cmd.begun c kind.Read p)) ∙ begun_apt c kind.Read p e
 
 passed_apt : (n : Note) (c : ℕ) (p : Uc8253) → Apt (cmd.passed_by own n c p)
-passed_apt Quiet c p = sorted_apt (kind_of c p.config.variant) c p (not_single c p.config.variant)
-passed_apt (Told k) c p = refl
+passed_apt None c p = sorted_apt (kind_of c p.config.variant) c p (not_single c p.config.variant)
+passed_apt (Some k) c p = refl
 
 apt_command : (c : ℕ) (p : Uc8253) → Apt (cmd.command_byte own c p)
 unfolding cmd.command_byte

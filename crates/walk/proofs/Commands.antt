@@ -1,5 +1,6 @@
 -- A command byte: what the controller makes of it, seen as what the machine makes of it. Where an operation runs only 70, 71 and 81 pass, so
 -- that no register changes under a refresh.
+use Rattle.std.proofs.Common.{None, Some}
 use mathlib.Core.Path.{◌≡◌, refl, sym, ap, ◌∙◌}
 use mathlib.Core.Bool.{Bool, true, false, not, ◌&&◌, ◌||◌, true≢false}
 use mathlib.Core.List.{List, [], ◌∷◌}
@@ -22,7 +23,6 @@ use Rattle.diagnostic.specs.declared.DiagnosticKind.{DiagnosticKind}
 use Rattle.controller.specs.declared.Uc8253.{Uc8253}
 use Rattle.controller.specs.declared.Work.{Work}
 use Rattle.controller.specs.declared.Work.TheVariants as work
-use Rattle.controller.specs.declared.notes.Note.TheVariants.{Quiet, Told}
 use Rattle.controller.specs.Refresh as drv
 use Rattle.controller.specs.Command as cmd
 use Rattle.controller.specs.Counting.{own}
@@ -47,7 +47,7 @@ module _ (old new : List ℕ) where
   -- what lets it start
   module _ (k1 k2 k3 k4 : DiagnosticKind) (p : Uc8253) (s : SoundChip p) where
     seen_able : (e5 e4 e1 e : Bool)
-        → seen (drv.refreshed_by own (pick e5 (pick e4 (pick e1 (pick e Quiet (Told k4)) (Told k3)) (Told k2)) (Told k1)) p) old new
+        → seen (drv.refreshed_by own (pick e5 (pick e4 (pick e1 (pick e None (Some k4)) (Some k3)) (Some k2)) (Some k1)) p) old new
         ≡ pick (e5 && (e4 && (e1 && e)))
         (begin p.config (drives (noted p.config (seen p old new))) (duration_of (wave_now p.config (seen p old new))) (seen p old new))
         (seen p old new)
@@ -155,7 +155,7 @@ other c e =
 
 module _ (old new : List ℕ) (k8 k7 k6 : DiagnosticKind) (c : ℕ) (p : Uc8253) (s : (x : Kind) → SoundChip (cmd.begun c x p)) where
   seen_noted : (a b d e : Bool) → (d ≡ false → refresh_runs p.operation.work ≡ false) → (e ≡ true → one_of (0x91 ∷ 0x92 ∷ []) c ≡ false)
-      → seen (cmd.passed_by own (pick a (Told k8) (pick b (Told k7) (pick d (pick e Quiet (Told k6)) Quiet))) c p) old new
+      → seen (cmd.passed_by own (pick a (Some k8) (pick b (Some k7) (pick d (pick e None (Some k6)) None))) c p) old new
       ≡ pick (a || (b || (d && not e))) (with_hears ignored (seen p old new)) (ordered (kind_of c p.config.variant) p.config c (seen p old new))
   seen_noted true b d e f o = refl
   seen_noted false true d e f o = refl

@@ -1,5 +1,5 @@
 -- Document 01, "Conditions of acceptance": the table that one theorem proves together, line by line, on the definitions that promises cite.
-use Rattle.std.specs.Prelude.{◌≡◌, Bool, true, false, List, [], ◌∷◌, ℕ, ◌+◌, ◌*◌, ◌≤◌, ◌<◌, ℤ, pos, neg_ℤ, length, get_or, take}
+use Rattle.std.specs.Prelude.{None, Some, ◌≡◌, Bool, true, false, List, [], ◌∷◌, ℕ, ◌+◌, ◌*◌, ◌≤◌, ◌<◌, ℤ, pos, neg_ℤ, length, get_or, take}
 use Rattle.base.specs.Integer.{up}
 use Rattle.base.specs.Word.{top}
 use Rattle.clock.specs.Clock.{billion}
@@ -23,8 +23,7 @@ use Rattle.controller.specs.declared.Power.TheVariants as power
 use Rattle.controller.specs.declared.Refresh.{Refresh}
 use Rattle.controller.specs.declared.Uc8253.{Uc8253}
 use Rattle.controller.specs.declared.Work.TheVariants as work
-use Rattle.controller.specs.declared.reads.Read.{Read}
-use Rattle.controller.specs.declared.reads.Read.TheVariants.{Byte, Nothing}
+use Rattle.controller.specs.Maybe.{Read}
 use Rattle.controller.specs.World.{World, Buffers}
 use Rattle.controller.specs.Refresh.{waveform_now, all_frames, elapsed}
 use Rattle.controller.specs.Glass.{numbers_now, walked}
@@ -176,9 +175,9 @@ pub record Table : Type 0 where
   -- by the calls, whatever their times; and such a making there is
   pub made_met : Made8279d (slow variant.Uc8279d) bench
   pub read_71 : (c : Uc8253Config) (b : Buffers) → Made8279d c b → (t t0 t1 : ℕ)
-      → answers (t0 ∷ t1 ∷ []) (did (command t 0x71) (made c b)) ≡ Byte 0x13 ∷ Nothing ∷ []
+      → answers (t0 ∷ t1 ∷ []) (did (command t 0x71) (made c b)) ≡ Some 0x13 ∷ None ∷ []
   pub read_70 : (c : Uc8253Config) (b : Buffers) → Made8279d c b → (t t0 t1 t2 t3 t4 t5 : ℕ)
       → answers (t0 ∷ t1 ∷ t2 ∷ t3 ∷ t4 ∷ t5 ∷ []) (did (command t 0x70) (made c b))
-      ≡ Byte 0x00 ∷ Byte 0x03 ∷ Byte 0x66 ∷ Byte 0xFF ∷ Byte 0xFF ∷ Nothing ∷ []
+      ≡ Some 0x00 ∷ Some 0x03 ∷ Some 0x66 ∷ Some 0xFF ∷ Some 0xFF ∷ None ∷ []
   pub then_none : (c : Uc8253Config) (b : Buffers) → Made8279d c b → (t u : ℕ) (ts : List ℕ) → 5 ≤ length ts
-      → read_answer u (after_reads ts (did (command t 0x70) (made c b))) ≡ Nothing
+      → read_answer u (after_reads ts (did (command t 0x70) (made c b))) ≡ None

@@ -1,5 +1,5 @@
 -- Codes beside VCOM's, frame by frame: how many frames, what each is, and runs of equal codes at once.
-use mathlib.Core.Path.{◌≡◌, refl, sym, ap, ◌∙◌}
+use mathlib.Core.Path.{◌≡◌, refl, ap, ◌∙◌}
 use mathlib.Core.Bool.{Bool}
 use mathlib.Core.List.{List, [], ◌∷◌, ◌++◌}
 use Prim.Native.Nat.{ℕ, zero, suc, ◌<◌}
@@ -7,7 +7,6 @@ use native.Mathlib.Omega.{arith}
 use lib.ListN.{length, get_or, drop, replicate}
 use lib.Seq.{drop-nil}
 use lib.IntN.{ℤ, pos}
-use Rattle.base.specs.InTurn.{in_turn}
 use Rattle.waveform.specs.declared.Levels.{Levels}
 use Rattle.waveform.specs.Frames.{drive_of, beside}
 

@@ -7,4 +7,3 @@ pub mod PlaceLaws
 pub mod BesideProgress
 pub mod RuleLaws
 pub mod RuleExamples
-pub mod Elements

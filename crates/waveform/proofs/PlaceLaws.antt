@@ -1,6 +1,6 @@
 -- The codes to come from a place: the phase after it begins with the rest, and the first place of a table with all.
 use mathlib.Core.Path.{◌≡◌, refl, sym, ap, ◌∙◌}
-use mathlib.Core.Bool.{true, false, true≢false}
+use mathlib.Core.Bool.{false, true≢false}
 use mathlib.Core.List.{List, [], ◌∷◌, ◌++◌, append_assoc, append-nil}
 use Prim.Native.Nat.{ℕ, zero, suc, ◌+◌, ◌-◌, ◌*◌, ◌<◌, ◌≤◌, min}
 use native.Mathlib.Omega.{arith}
@@ -14,7 +14,7 @@ use Rattle.waveform.specs.declared.Group.{Group}
 use Rattle.waveform.specs.declared.Place.{Place}
 use Rattle.waveform.specs.Tables.{ends, running}
 use Rattle.waveform.specs.Frames.{blank, phase_codes, round_codes, group_codes, codes_of}
-use Rattle.waveform.specs.InnerPlaces.{group_at, place_at, start_at, next_place, turns_from, codes_after, codes_from, AtEnd, Placed}
+use Rattle.waveform.specs.InnerPlaces.{group_at, place_at, start_at, next_place, turns_from, codes_after, codes_from, Placed}
 
 -- ---- lists in turn, from the front
 in_turn_first : {A : Type 0} (n : ℕ) (f : ℕ → List A) → in_turn (suc n) f ≡ f 0 ++ in_turn n (λ k. f (suc k))

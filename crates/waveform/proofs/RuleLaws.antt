@@ -1,17 +1,17 @@
 -- The two rules of VCOM: each frame of rule 2, how many there are, and that equal times give equal frames by both.
-use mathlib.Core.Path.{◌≡◌, refl, sym, subst, ap, ◌∙◌}
+use mathlib.Core.Path.{◌≡◌, refl, sym, ap, ◌∙◌}
 use mathlib.Core.Bool.{Bool, true, false}
 use mathlib.Core.List.{List, [], ◌∷◌, ◌++◌, append-nil}
 use Prim.Native.Nat.{ℕ, zero, suc, ◌<◌}
 use native.Mathlib.Omega.{arith}
 use lib.Dec.{eqb}
-use lib.ListN.{length, get_or, take, drop, replicate, length-replicate}
+use lib.ListN.{length, get_or, take, replicate, length-replicate}
 use lib.Seq.{get_or-take, drop_at}
 use lib.IntN.{ℤ, pos}
 use Rattle.base.specs.Pick.{pick}
 use Rattle.base.specs.InTurn.{in_turn}
 use Rattle.base.specs.Listed.{sum_to}
-use Rattle.base.proofs.Cases.{by_cases, both}
+use Rattle.base.proofs.Cases.{by_cases}
 use Rattle.base.proofs.InTurn.{length_in_turn}
 use Rattle.waveform.specs.declared.Group.{Group}
 use Rattle.waveform.specs.declared.Levels.{Levels}

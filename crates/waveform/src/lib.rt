@@ -17,7 +17,6 @@ ghost use Rattle.waveform.specs.InnerProgress.{Parts, Drives, Extends, frames_un
 ghost use Rattle.waveform.specs.InnerPlaces.{place_at, start_at, next_place, codes_from, Placed, Stands};
 ghost use Rattle.waveform.specs.InnerPlaces.{common_run, beside_under};
 
-use base::{greatest, least, saturating_mul, saturating_sub};
 use glass::Transfer;
 use supply::supply_millivolts;
 
@@ -125,67 +124,54 @@ pub fn decode(luts: [[u8; LUT_BYTES]; LUTS]) -> [[Group; GROUPS]; LUTS]
     tables
 }
 
-fn wide(b: u8) -> u64
-    ensures { (result ≡ b) × (result ≤ 255) }
-{
-    b as u64
-}
-
 // The frames of one round of a group.
 fn round_frames(group: Group) -> u64
     ensures { (result ≡ sum_of group.frames) × (result ≤ 1020) }
 {
-    let frames = group.frames;
-    let mut sum: u64 = 0;
-    for phase in 0..PHASES {
-        sum += wide(frames[phase]);
+    let mut sum = 0;
+    for frames in group.frames {
+        sum += frames as u64;
     }
     sum
 }
 
 // The waveform ends here: the group runs no time, or has no frame.
+#[tactic(auto, unfolding(crate::specs::Tables::ends))]
 fn ends_table(group: Group) -> bool
     ensures { result ≡ ends group }
 {
-    if group.repeats == 0 {
-        return true;
-    }
-    round_frames(group) == 0
+    group.repeats == 0 || round_frames(group) == 0
 }
 
 // How many groups of a table run.
 fn running_groups(table: [Group; GROUPS]) -> usize
     ensures { result ≡ length (running table) }
 {
-    let mut k = 0;
-    while k < GROUPS {
+    for k in 0..GROUPS {
         if ends_table(table[k]) {
             return k;
         }
-        k += 1;
     }
-    k
+    GROUPS
 }
 
 // The frames of a group, all its rounds together.
 fn group_frames(group: Group) -> u64
     ensures { (result ≡ group.repeats * sum_of group.frames) × (result ≤ 260100) }
 {
-    wide(group.repeats) * round_frames(group)
+    group.repeats as u64 * round_frames(group)
 }
 
 // The frames of a table, up to its end.
 fn table_frames(table: [Group; GROUPS]) -> u64
     ensures { (result ≡ table_frame_count table) × (result ≤ 1820700) }
 {
-    let mut sum: u64 = 0;
-    let mut k: usize = 0;
-    while k < GROUPS {
-        if ends_table(table[k]) {
+    let mut sum = 0;
+    for group in table {
+        if ends_table(group) {
             return sum;
         }
-        sum += group_frames(table[k]);
-        k += 1;
+        sum += group_frames(group);
     }
     sum
 }
@@ -197,29 +183,25 @@ struct Volts {
     below: u16,
 }
 
+#[tactic(auto, unfolding(crate::specs::Levels::level_of_code))]
 fn level_of(levels: Levels, code: u8) -> Volts
     ensures { result ≡ Parts (level_of_code levels code) }
 {
-    let c = code % 4;
-    if c == 1 {
-        return Volts {
+    match code % 4 {
+        1 => Volts {
             above: levels.vdh,
             below: 0,
-        };
-    }
-    if c == 2 {
-        return Volts {
+        },
+        2 => Volts {
             above: 0,
             below: levels.vdl,
-        };
-    }
-    if c == 3 {
-        return Volts {
+        },
+        3 => Volts {
             above: levels.vdhr,
             below: 0,
-        };
+        },
+        _ => Volts { above: 0, below: 0 },
     }
-    Volts { above: 0, below: 0 }
 }
 
 // What every frame of a refresh has in common.
@@ -241,7 +223,7 @@ struct Drive {
 fn energy(above: u64, below: u64, period: u64) -> u64
     ensures { result ≡ min ((above - below) * period) top }
 {
-    saturating_mul(saturating_sub(above, below), period)
+    above.saturating_sub(below).saturating_mul(period)
 }
 
 fn frame_drive(supply: Supply, source: u8, vcom: u8) -> Drive
@@ -281,15 +263,12 @@ struct Progress {
 fn drive_phase(p: Progress, n: u64, drive: Drive, swing: u64) -> Progress
     ensures { (z : ℤ) → drive ≡ Drives z → Extends swing p result (replicate n z) }
 {
-    let run = p.run;
-    let left = p.left;
-    let k = least(n, left);
-    let up = saturating_mul(k, drive.up);
-    let down = saturating_mul(k, drive.down);
-    let all = run.then(Transfer::shift(up, down, swing));
+    let k = n.min(p.left);
+    let up = k.saturating_mul(drive.up);
+    let down = k.saturating_mul(drive.down);
     Progress {
-        run: all,
-        left: left - k,
+        run: p.run.then(Transfer::shift(up, down, swing)),
+        left: p.left - k,
     }
 }
 
@@ -303,16 +282,10 @@ fn drive_round(
 ) -> Progress
     ensures { Extends swing p result (round_frames supply.levels supply.frame_ns supply.positive_drives_black group vcom) }
 {
-    let codes = group.codes;
-    let frames = group.frames;
     let mut q = p;
     for i in 0..PHASES {
-        q = drive_phase(
-            q,
-            wide(frames[i]),
-            frame_drive(supply, codes[i], vcom[i]),
-            swing,
-        );
+        let drive = frame_drive(supply, group.codes[i], vcom[i]);
+        q = drive_phase(q, group.frames[i] as u64, drive, swing);
     }
     q
 }
@@ -327,9 +300,8 @@ fn drive_group(
 ) -> Progress
     ensures { Extends swing p result (group_frames supply.levels supply.frame_ns supply.positive_drives_black group vcom) }
 {
-    let repeats = wide(group.repeats);
     let mut q = p;
-    for i in 0u64..repeats {
+    for i in 0..group.repeats {
         q = drive_round(q, group, vcom, supply, swing);
     }
     q
@@ -341,10 +313,10 @@ fn vcom_codes(vcom: [Group; GROUPS], runs: usize, group: usize) -> [u8; PHASES]
     ensures { result ≡ vcom_codes vcom group }
 {
     if group < runs {
-        let g = vcom[group];
-        return g.codes;
+        vcom[group].codes
+    } else {
+        [0; PHASES]
     }
-    [0; PHASES]
 }
 
 // The first frames of a table, group by group.
@@ -359,9 +331,11 @@ fn drive_table(
 {
     let runs = running_groups(table);
     let vcom_runs = running_groups(vcom);
-    let run = Transfer::identity(swing);
-    let mut q = Progress { run, left: n };
-    for k in 0usize..runs {
+    let mut q = Progress {
+        run: Transfer::identity(swing),
+        left: n,
+    };
+    for k in 0..runs {
         q = drive_group(q, table[k], vcom_codes(vcom, vcom_runs, k), supply, swing);
     }
     q.run
@@ -385,27 +359,23 @@ impl Place {
         ensures { result ≡ place_at table group rounds phase }
     {
         let g = table[group];
-        let codes = g.codes;
-        let frames = g.frames;
-        let code = codes[phase];
-        let left = wide(frames[phase]);
         Place {
             group,
             rounds,
             phase,
-            code,
-            left,
+            code: g.codes[phase],
+            left: g.frames[phase] as u64,
         }
     }
 
     // The first phase of a group, or the table's end.
+    #[tactic(auto, unfolding(crate::specs::InnerPlaces::start_at))]
     fn start(table: [Group; GROUPS], runs: usize, group: usize) -> Place
         requires { runs ≡ length (running table) }
         ensures { result ≡ start_at table group }
     {
         if group < runs {
-            let g = table[group];
-            return Place::at(table, group, g.repeats - 1, 0);
+            return Place::at(table, group, table[group].repeats - 1, 0);
         }
         Place {
             group,
@@ -417,6 +387,7 @@ impl Place {
     }
 
     // The phase after this one.
+    #[tactic(auto, unfolding(crate::specs::InnerPlaces::next_place))]
     fn next(self, table: [Group; GROUPS], runs: usize) -> Place
         requires { (runs ≡ length (running table)) × (self.group < runs) }
         ensures { result ≡ next_place table self }
@@ -459,19 +430,21 @@ impl Place {
         ensures { Stands table result (drop (min n self.left) (codes_from table self)) }
     {
         let mut p = self;
-        p.left = saturating_sub(self.left, n);
+        p.left = self.left.saturating_sub(n);
         p.settled(table, runs)
     }
 }
 
 // The frames over which neither the pixel's code changes nor VCOM's, which may have ended.
+#[tactic(auto, unfolding(crate::specs::InnerPlaces::common_run))]
 fn common_run(pixel: Place, vcom: Place) -> u64
     ensures { result ≡ common_run pixel vcom }
 {
     if vcom.left == 0 {
-        return pixel.left;
+        pixel.left
+    } else {
+        pixel.left.min(vcom.left)
     }
-    least(pixel.left, vcom.left)
 }
 
 // The first frames of a table, each beside VCOM's frame of the same number.
@@ -486,8 +459,10 @@ fn drive_beside(
 {
     let runs = running_groups(table);
     let vcom_runs = running_groups(vcom);
-    let run = Transfer::identity(swing);
-    let mut q = Progress { run, left: n };
+    let mut q = Progress {
+        run: Transfer::identity(swing),
+        left: n,
+    };
     let mut p = Place::first(table, runs);
     let mut v = Place::first(vcom, vcom_runs);
     while 0 < q.left {
@@ -507,37 +482,10 @@ fn drive_beside(
 pub fn whole_frames(ns: u64, period: u64) -> u64
     ensures { result ≡ ns / period }
 {
-    if period == 0 {
-        return 0;
-    }
-    ns / period
+    if period == 0 { 0 } else { ns / period }
 }
 
-// The proofs of `of` and `tables` are walks by hand, by the laws of the crate `nested`; the rest goes
-// by these two.
 impl Waveform {
-    pub fn of(
-        tables: [[Group; GROUPS]; LUTS],
-        levels: Levels,
-        frame_ns: u64,
-        vcom_by_frame: bool,
-    ) -> Waveform
-        ensures { result ≡ record { tables = tables; levels = levels; frame_ns = frame_ns; vcom_by_frame = vcom_by_frame } }
-    {
-        Waveform {
-            tables,
-            levels,
-            frame_ns,
-            vcom_by_frame,
-        }
-    }
-
-    fn tables(self) -> [[Group; GROUPS]; LUTS]
-        ensures { result ≡ self.tables }
-    {
-        self.tables
-    }
-
     // The LUT registers decoded, for a refresh at these levels and this frame period, by this rule.
     pub fn new(
         luts: [[u8; LUT_BYTES]; LUTS],
@@ -547,17 +495,21 @@ impl Waveform {
     ) -> Waveform
         ensures { result ≡ waveform_of luts levels frame_ns vcom_by_frame }
     {
-        Waveform::of(decode(luts), levels, frame_ns, vcom_by_frame)
+        Waveform {
+            tables: decode(luts),
+            levels,
+            frame_ns,
+            vcom_by_frame,
+        }
     }
 
     // The frames of the refresh: those of the longest of the five LUTs, then two of VCOM_DC.
     pub fn frames(self) -> u64
         ensures { result ≡ refresh_frames self }
     {
-        let tables = self.tables();
-        let mut frames: u64 = 0;
-        for k in 0..LUTS {
-            frames = greatest(frames, table_frames(tables[k]));
+        let mut frames = 0;
+        for table in self.tables {
+            frames = table_frames(table).max(frames);
         }
         frames + TAIL_FRAMES
     }
@@ -566,7 +518,7 @@ impl Waveform {
     pub fn duration_ns(self) -> u64
         ensures { result ≡ duration_of self }
     {
-        saturating_mul(self.frames(), self.frame_ns)
+        self.frames().saturating_mul(self.frame_ns)
     }
 
     // What table `lut` does to a state of 0 ..= swing over the first n frames of the refresh.
@@ -582,18 +534,18 @@ impl Waveform {
         if LUTS <= lut {
             return Transfer::identity(swing);
         }
-        let tables = self.tables();
-        let levels = self.levels;
-        let frame_ns = self.frame_ns;
         let supply = Supply {
-            levels,
-            frame_ns,
+            levels: self.levels,
+            frame_ns: self.frame_ns,
             positive_drives_black,
         };
+        let table = self.tables[lut];
+        let vcom = self.tables[0];
         if self.vcom_by_frame {
-            return drive_beside(tables[lut], tables[0], supply, swing, n);
+            drive_beside(table, vcom, supply, swing, n)
+        } else {
+            drive_table(table, vcom, supply, swing, n)
         }
-        drive_table(tables[lut], tables[0], supply, swing, n)
     }
 
     // What table `lut` does to a state of 0 ..= swing over the whole refresh.
@@ -603,8 +555,7 @@ impl Waveform {
         if LUTS <= lut {
             return Transfer::identity(swing);
         }
-        let tables = self.tables();
-        let n = table_frames(tables[lut]);
+        let n = table_frames(self.tables[lut]);
         self.transfer_first(lut, swing, positive_drives_black, n)
     }
 }

@@ -10,19 +10,8 @@ use Rattle.config.specs.Refusal.{some_zero}
 use Rattle.config.proofs.RefusalLaws.{zero_seen}
 use Rattle.config.proofs.some_zero.Goals as goal
 
-pub loop-i-init : goal.loop-i-init
-loop-i-init c = (refl, omega arith)
-
 pub returns-then-periods-i-eq0 : goal.returns-then-periods-i-eq0
 returns-then-periods-i-eq0 c = sym (zero_seen c.args.periods 32 c.loop-i.i (omega arith) c.if-periods-i-eq0.true)
-
-pub loop-i-smaller : goal.loop-i-smaller
-loop-i-smaller c = omega arith
-
-pub loop-i-preserved : goal.loop-i-preserved
-loop-i-preserved c =
-    let l = c.loop-i in
-    (rw (add-one l.i, l.invariant.0) (ne_eqb _ _ c.if-periods-i-eq0.false), omega arith)
 
 pub returns : goal.returns
 returns c =

@@ -1,15 +1,9 @@
--- `driving::drive_from` meets its contract: what was lent comes back driven, and nothing stands behind it.
-use borrow.Author.Rules.{rules}
+-- `driving::drive_from` meets its contract: past the end nothing is left to drive.
 use native.Mathlib.Omega.{arith}
-use Rattle.driving.proofs.PanelLaws.{driven_past, driven_part}
+use Rattle.driving.proofs.PanelLaws.{driven_past}
 use Rattle.driving.proofs.drive_from.Goals as goal
 
-pub returns-then-states-at : goal.returns-then-states-at
-returns-then-states-at c =
+pub returns-else-at-states : goal.returns-else-at-states
+returns-else-at-states c =
     let s = c.args in
-    driven_past s.ww s.kw s.wk s.kk s.at s.numbers.now s.states.now (omega arith)
-
-pub returns : goal.returns
-returns c =
-    let s = c.args in
-    driven_part s.ww s.kw s.wk s.kk s.at s.numbers.now s.states.now c.drive.new.states (omega arith) c.drive.ensures
+    driven_past s.t.ww s.t.kw s.t.wk s.t.kk s.at s.numbers.now s.states.now (omega arith)

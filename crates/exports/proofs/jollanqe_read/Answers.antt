@@ -1,11 +1,19 @@
 -- `exports::jollanqe_read` meets its contract: the call on the record that was taken, handed over.
-use Rattle.exports.proofs.Passed.{passed}
+use Rattle.exports.proofs.Passed.{given_is}
 use Rattle.exports.specs.Given.{answer_number}
 use mathlib.Core.Path.{ap, ◌∙◌}
-use Rattle.controller.specs.Ask as ask
-use Rattle.controller.specs.World.{Buffers, buffers}
 use borrow.Author.Rules.{rules}
+use Rattle.controller.specs.Ask as ask
+use Rattle.controller.specs.Lent.{held}
+use Rattle.controller.specs.World.{Buffers, buffers, world}
 use Rattle.exports.proofs.jollanqe_read.Goals as goal
 
-pub returns : goal.returns
-returns c = let g = c.args in let b : Buffers = buffers g.old.now g.new.now g.states.now g.picture.now g.rows.now in let a = c.read_data-a in passed (ask.reading g.at) g.chip _ b c.taken-p.ensures c.give.ensures a.ensures.called.0 a.ensures.called.1 (c.read_number.ensures ∙ ap answer_number a.ensures.answers)
+pub returns-in-Ok : goal.returns-in-Ok
+returns-in-Ok c =
+    let g = c.args in
+    let b : Buffers = buffers g.old.now g.new.now g.states.now g.picture.now g.rows.now in
+    let a = c.in-Ok.ensures in (
+      given_is (ask.reading g.at) g.chip _ b c.taken-p.ensures {v = world c.in-Ok.read.chip (held c.read_data.new.lent)}
+          (c.give.ensures c.taken-p.result) a.called.0 a.called.1 (c.read_number.ensures ∙ ap answer_number a.answers),
+      search rules,
+    )

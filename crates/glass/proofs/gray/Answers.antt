@@ -1,5 +1,4 @@
 -- `glass::gray` meets its contract. Below 2 ^ 54 the formula's own numbers fit 64 bits.
-use borrow.Author.Rules.{rules}
 use Prim.Native.Nat.{◌+◌, ◌*◌}
 use native.Mathlib.Nat.{div-zero}
 use native.Mathlib.Omega.{arith}

@@ -1,13 +1,21 @@
 -- `lending::come` meets its contract: turned back, or settled; what `settle` asks of swing and states is known then (`come_ready`).
+use Rattle.controller.specs.Lent.{held}
+use Rattle.base.proofs.RefusalWords.{handed_on}
 use Rattle.lending.proofs.Coming.{come_ready, come_yes, come_no}
-use borrow.Author.Rules.{rules}
 use Rattle.lending.proofs.come.Goals as goal
 
+pub returns-in_err-turned_back-clause-gives : goal.returns-in_err-turned_back-clause-gives
+returns-in_err-turned_back-clause-gives c = rw (handed_on _ _ c.from_residual.ensures.1) c.in_err-turned_back.ensures
+
+pub returns-in_err-turned_back-clause-comes : goal.returns-in_err-turned_back-clause-comes
+returns-in_err-turned_back-clause-comes c =
+    let a = c.args in come_no a.asserted a.at a.p (held a.lent.now) _ c.in_err-turned_back.ensures
+
 pub settle-requires : goal.settle-requires
-settle-requires c = come_ready _ _ _ _ c.turned_back-refused.ensures c.none.ensures c.if-none.true
+settle-requires c = let a = c.args in come_ready a.asserted a.at a.p (held a.lent.now) c.in_ok-turned_back.ensures
 
-pub returns-then-none : goal.returns-then-none
-returns-then-none c = record { gives = c.turned_back-refused.ensures; rows_value = come_yes _ _ _ _ c.turned_back-refused.ensures c.none.ensures c.if-none.true c.settle.ensures.after c.settle.ensures.states_after c.settle.ensures.picture_after }
-
-pub returns-else-none : goal.returns-else-none
-returns-else-none c = record { gives = c.turned_back-refused.ensures; rows_value = come_no _ _ _ _ c.turned_back-refused.ensures c.none.ensures c.if-none.false }
+pub returns-clause-comes : goal.returns-clause-comes
+returns-clause-comes c =
+    let a = c.args in
+    let s = c.settle.ensures in
+    come_yes a.asserted a.at a.p (held a.lent.now) c.in_ok-turned_back.ensures s.old_after s.others.0 s.states_after s.picture_after s.others.1

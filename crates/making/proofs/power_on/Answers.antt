@@ -1,44 +1,34 @@
 -- `making::power_on` meets its contract: every buffer filled, or refused.
 use Rattle.making.proofs.FirstWorld.{at_level, made_first, made_none}
 use Rattle.controller.specs.Calls.{untouched, first_chip}
-use Rattle.controller.specs.World.{buffers}
-use Rattle.base.proofs.RefusalWords.{told}
+use Rattle.controller.specs.Lent.{held}
+use Rattle.base.proofs.RefusalWords.{taken, turned, handed_on}
 use lib.ListN.{length}
 use native.Mathlib.Omega.{arith}
-use mathlib.Core.Path.{ap, ◌∙◌}
-use borrow.Author.Rules.{rules}
+use mathlib.Core.Path.{refl, ap, ◌∙◌}
 use Rattle.making.proofs.power_on.Goals as goal
 
-pub shape_of-old-then-none : goal.shape_of-old-then-none
-shape_of-old-then-none c = c.fill_bytes.auto.bytes
-
-pub shape_of-new-then-none : goal.shape_of-new-then-none
-shape_of-new-then-none c = c.fill_bytes-then-none.auto.bytes
-
-pub shape_of-states-then-none : goal.shape_of-states-then-none
-shape_of-states-then-none c = c.fill_states.auto.states
-
-pub returns-then-none : goal.returns-then-none
-unfolding first_chip
-returns-then-none c =
-    let a = c.args in (
-      made_first a.config (buffers a.old.now a.new.now a.states.now a.picture.now a.rows.now) c.untouched-chip.result _
-          (omega (arith, c.well_formed.0)) (told c.none.ensures c.making_refused-refused.ensures c.if-none.true)
-          (record {
-            chip_is = c.untouched-chip.ensures ∙ ap (untouched a.config) c.reset.ensures;
-            old_is = c.fill_bytes.ensures;
-            new_is = c.fill_bytes-then-none.ensures;
-            states_is = at_level (length a.states.now) c.fill_states.ensures c.level.ensures;
-            picture_is = c.fill_bytes-then-none-2.ensures;
-            rows_is = c.fill_words.ensures;
-          }),
-      c.making_refused-refused.ensures,
+pub returns-in_err-making_refused-clause-makes : goal.returns-in_err-making_refused-clause-makes
+returns-in_err-making_refused-clause-makes c =
+    let a = c.args in
+    rw (handed_on _ _ c.from_residual.ensures.1) (
+      made_none a.config (held a.lent.now) _ (turned _ c.in_err-making_refused.ensures) refl,
+      c.in_err-making_refused.ensures,
     )
 
-pub returns : goal.returns
-returns c =
+pub returns-clause-makes : goal.returns-clause-makes
+unfolding first_chip
+returns-clause-makes c =
     let a = c.args in (
-      made_none a.config (buffers a.old.now a.new.now a.states.now a.picture.now a.rows.now) _
-          (told c.none.ensures c.making_refused-refused.ensures c.if-none.false) c.zeros-chip.ensures,
-      c.making_refused-refused.ensures,
+      made_first a.config (held a.lent.now) c.untouched.result _
+          (omega (arith, c.well_formed.0)) (taken c.in_ok-making_refused.ensures)
+          (record {
+            chip_is = c.untouched.ensures ∙ ap (untouched a.config) c.reset.ensures;
+            old_is = c.fill.ensures.after (λ y e. e);
+            new_is = c.fill-2.ensures.after (λ y e. e);
+            states_is = at_level (length a.lent.now.states.now) c.fill_states.ensures c.level.ensures;
+            picture_is = c.fill-3.ensures.after (λ y e. e);
+            rows_is = c.fill-4.ensures.after (λ y e. e);
+          }),
+      c.in_ok-making_refused.ensures,
     )

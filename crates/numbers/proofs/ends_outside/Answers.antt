@@ -1,16 +1,27 @@
--- `numbers::ends_outside` meets its contract: the first and the last tell (`ends_tell`).
-use borrow.Author.Rules.{rules}
-use mathlib.Core.Path.{ap, ◌∙◌}
+-- `numbers::ends_outside` meets its contract: the first and the last tell.
+use mathlib.Core.Path.{sym, ap, ◌∙◌}
 use mathlib.Core.Bool.{Bool, ◌||◌, not}
-use Prim.Native.Nat.{ℕ}
-use Rattle.numbers.specs.Number.{between_both}
+use Prim.Native.Nat.{ℕ, ◌-◌}
+use native.Mathlib.Omega.{arith}
+use Rattle.numbers.specs.Number.{between_both, outside_at}
 use Rattle.numbers.proofs.OutsideLaws.{ends_tell}
 use Rattle.numbers.proofs.ends_outside.Goals as goal
 
-pub returns : goal.returns
-returns c =
+pub returns-then-outside : goal.returns-then-outside
+returns-then-outside c =
     let s = c.args in
-    let tests : ℕ → Bool = λ v. not (between_both s.first s.last s.from s.to v) in
-    let a = c.outside-a.ensures ∙ ap tests c.shown.ensures in
-    let b = c.outside-b.ensures ∙ ap tests c.shown-2.ensures in
-    (λ i. a i || b i) ∙ ends_tell s.first s.last s.from s.to s.scan (search rules) (search rules)
+    let last = outside_at s.scan s.first s.last s.from s.to (s.scan.count - 1) in
+    let first = sym c.if-outside.true ∙ c.outside.ensures ∙ ap (λ (v : ℕ). not (between_both s.first s.last s.from s.to v)) c.shown-a.ensures in
+    c.if-outside.true
+    ∙ ap (λ (t : Bool). t || last) first
+    ∙ ends_tell s.first s.last s.from s.to s.scan (omega arith) (omega arith)
+
+pub returns-else-outside : goal.returns-else-outside
+returns-else-outside c =
+    let s = c.args in
+    let last = outside_at s.scan s.first s.last s.from s.to (s.scan.count - 1) in
+    let first = sym c.if-outside.false ∙ c.outside.ensures ∙ ap (λ (v : ℕ). not (between_both s.first s.last s.from s.to v)) c.shown-a.ensures in
+    c.outside-else-outside.ensures
+    ∙ ap (λ (v : ℕ). not (between_both s.first s.last s.from s.to v)) c.shown-b.ensures
+    ∙ ap (λ (t : Bool). t || last) first
+    ∙ ends_tell s.first s.last s.from s.to s.scan (omega arith) (omega arith)

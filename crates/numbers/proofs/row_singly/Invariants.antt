@@ -1,16 +1,10 @@
 -- `numbers::row_singly` meets its contract. At column x the first x entries of the row are written.
-use borrow.Author.Rules.{rules}
-use mathlib.Core.Path.{◌≡◌, refl, ap, ◌∙◌}
-use Prim.Native.Nat.{ℕ, ◌+◌, ◌-◌, ◌≤◌}
-use native.Mathlib.Omega.{arith}
-use lib.ListN.{length, set}
+use mathlib.Core.Path.{◌≡◌}
 use Rattle.numbers.specs.Filled.{filled}
-use Rattle.numbers.specs.InnerRow.{number_in, number_at}
-use Rattle.numbers.proofs.FilledLaws.{filled_more, length_filled}
+use Rattle.numbers.specs.InnerRow.{number_at}
 use Rattle.numbers.proofs.row_singly.Given as goal
 
 abbrev pub invariant-loop-x : goal.invariant-loop-x
-invariant-loop-x l = (l.numbers ≡ filled (number_at l.row l.white l.old l.new l.columns l.active) l.at l.x l.initial.numbers) × (l.x ≤ l.count)
-
-abbrev pub decreases-loop-x : goal.decreases-loop-x
-decreases-loop-x l = l.count - l.x
+invariant-loop-x l =
+    let p = l.p in
+    l.numbers ≡ filled (number_at p.row p.white p.old.now p.new.now l.columns l.active) 0 l.x l.initial.numbers

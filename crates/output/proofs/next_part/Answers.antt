@@ -1,40 +1,42 @@
--- `output::next_part` meets its contract: the units up to the next one are in the buffer; the measure is the units that are left.
-use native.Mathlib.Omega.{arith}
-use mathlib.Core.Path.{◌≡◌}
-use Prim.Native.Nat.{◌<◌}
-use lib.ListN.{length}
+-- `output::next_part` meets its contract: the units up to the next one are in the buffer.
+use Rattle.std.proofs.Common.{sym, ◌∙◌, ◌≡◌, ◌<◌, length, arith}
+use borrow.Author.Tests.{leb-true, leb-false}
+use Rattle.text.proofs.Filling.{puts}
 use Rattle.output.specs.Units.{units_of}
-use Rattle.output.proofs.PartLaws.{along_start, along_more, along_full, along_end}
-use borrow.Author.Rules.{rules}
+use Rattle.output.proofs.PartLaws.{along_more, along_full, along_end, lays_as}
 use Rattle.output.proofs.next_part.Goals as goal
 
-pub loop-next-init : goal.loop-next-init
-loop-next-init c = let a = c.args in (along_start _ a.from a.text.now, search rules)
-
-pub returns-then-text-n : goal.returns-then-text-n
-returns-then-text-n c =
+pub returns-then-is_full : goal.returns-then-is_full
+returns-then-is_full c =
     let a = c.args in
+    let l = c.loop-next in
     let us = units_of a.form a.o a.events.now a.answers.now a.picture.now a.rows.now in
     let end : c.count-end.result ≡ length us = c.count-end.ensures a.answers.now a.picture.now a.rows.now in
-    let k : c.loop-next.next < length us = omega (arith, end, c.loop-next-test.true) in
-    let p = c.unit-n.ensures in
-    let l = c.loop-next in
-    along_full us a.from a.text.now l.held l.next l.text l.invariant.0 _ _ k p c.if-text-n.true
+    let k : l.next < length us = omega (arith, end, c.loop-next-test.true) in
+    let f = leb-true _ _ (sym c.is_full.ensures ∙ c.if-is_full.true) in
+    lays_as (grind (arith, puts)) (grind arith) c.held-held.ensures
+    (along_full us a.from c.new-text.result.buffer l.next l.text l.invariant.along _ k c.unit.ensures f)
 
 pub loop-next-preserved : goal.loop-next-preserved
 loop-next-preserved c =
     let a = c.args in
+    let l = c.loop-next in
     let us = units_of a.form a.o a.events.now a.answers.now a.picture.now a.rows.now in
     let end : c.count-end.result ≡ length us = c.count-end.ensures a.answers.now a.picture.now a.rows.now in
-    let k : c.loop-next.next < length us = omega (arith, end, c.loop-next-test.true) in
-    let p = c.unit-n.ensures in
-    let l = c.loop-next in
-    (along_more us a.from a.text.now l.held l.next l.text l.invariant.0 _ _ k p c.if-text-n.false, search rules)
+    let k : l.next < length us = omega (arith, end, c.loop-next-test.true) in
+    let f = leb-false _ _ (sym c.is_full.ensures ∙ c.if-is_full.false) in
+    record {
+      along = along_more us a.from c.new-text.result.buffer l.next l.text l.invariant.along _ k c.unit.ensures f;
+      top = omega (arith, c.loop-next-test.true);
+    }
 
 pub returns : goal.returns
 returns c =
     let a = c.args in
+    let l = c.loop-next in
     let us = units_of a.form a.o a.events.now a.answers.now a.picture.now a.rows.now in
     let end : c.count-end.result ≡ length us = c.count-end.ensures a.answers.now a.picture.now a.rows.now in
-    along_end us a.from a.text.now c.loop-next.held c.loop-next.next c.loop-next.text c.loop-next.invariant.0
-    (omega (arith, end, c.loop-next-test.false))
+    let n : c.max.result ≡ l.next = omega (arith, l.invariant.top, c.max.ensures, c.loop-next-test.false) in
+    rw n
+    (lays_as (grind (arith, puts)) (grind arith) c.held.ensures
+    (along_end us a.from c.new-text.result.buffer l.next l.text l.invariant.along (omega (arith, end, c.loop-next-test.false))))

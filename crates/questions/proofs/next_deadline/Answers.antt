@@ -13,4 +13,4 @@ returns-then-foreign c = λ b. (yes _ (sym c.foreign.ensures ∙ c.if-foreign.tr
 
 pub returns : goal.returns
 unfolding lent_refused question_refused deadline_answer
-returns c = λ b. (no _ (sym c.foreign.ensures ∙ c.if-foreign.false) refl, ap ask.due (no _ (sym c.foreign.ensures ∙ c.if-foreign.false) c.due_of-due.ensures))
+returns c = λ b. (no _ (sym c.foreign.ensures ∙ c.if-foreign.false) refl, ap ask.due (no _ (sym c.foreign.ensures ∙ c.if-foreign.false) c.due_of.ensures))

@@ -1,22 +1,19 @@
 -- `questions::wide_picture` meets its contract: by its refusal.
 use mathlib.Core.Path.{refl, ap}
 use Rattle.base.proofs.Chain.{yes, no}
-use Rattle.base.proofs.RefusalWords.{told}
+use Rattle.base.proofs.RefusalWords.{taken, turned, handed_on}
 use Rattle.controller.specs.Calls.{wide_answer}
 use Rattle.controller.specs.Ask as ask
-use borrow.Author.Rules.{rules}
 use Rattle.questions.proofs.wide_picture.Goals as goal
 
-pub returns-then-none : goal.returns-then-none
+pub returns-in_err-wide_refused : goal.returns-in_err-wide_refused
 unfolding wide_answer
-returns-then-none c =
-    let asked = c.before.before.before.before.before.before in
-    let z = told c.none.ensures asked.wide_refused-refused.ensures c.if-none.true in
-    λ w. (asked.wide_refused-refused.ensures, ap ask.wide (yes _ z c.draw_wide.ensures))
+returns-in_err-wide_refused c =
+    let refused = c.in_err-wide_refused.ensures in
+    rw (handed_on _ _ c.from_residual.ensures.1) (λ w. (refused, ap ask.wide (no _ (turned _ refused) refl)))
 
 pub returns : goal.returns
 unfolding wide_answer
 returns c =
-    let asked = c.before.before in
-    let z = told c.none.ensures asked.wide_refused-refused.ensures c.if-none.false in
-    λ w. (asked.wide_refused-refused.ensures, ap ask.wide (no _ z refl))
+    let refused = c.in_ok-wide_refused.ensures in
+    λ w. (refused, ap ask.wide (yes _ (taken refused) c.draw_wide.ensures))

@@ -1,5 +1,4 @@
 -- `ram::bit` meets its contract: the bit of the byte at its place.
-use borrow.Author.Rules.{rules}
 use Rattle.ram.specs.Plane.{bit_at}
 use Rattle.ram.proofs.bit.Goals as goal
 

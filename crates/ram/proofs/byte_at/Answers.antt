@@ -1,6 +1,5 @@
 -- `ram::byte_at` meets its contract: past the end, 0.
 use mathlib.Core.Path.{sym}
-use borrow.Author.Rules.{rules}
 use Rattle.base.proofs.Lists.{get_d_past}
 use Rattle.ram.proofs.byte_at.Goals as goal
 

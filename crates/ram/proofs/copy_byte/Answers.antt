@@ -1,7 +1,6 @@
 -- `ram::copy_byte` meets its contract: bits copied within one byte are that byte stored once.
 use mathlib.Core.Path.{sym, ◌∙◌}
 use native.Mathlib.Omega.{arith}
-use borrow.Author.Rules.{rules}
 use Rattle.ram.proofs.BytewiseLaws.{bits_copied}
 use Rattle.ram.proofs.copy_byte.Goals as goal
 

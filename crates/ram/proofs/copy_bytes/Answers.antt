@@ -1,9 +1,8 @@
 -- `ram::copy_bytes` meets its contract. The loop's invariant: the bytes passed are copied; the measure is what is left of them.
-use mathlib.Core.Path.{◌≡◌, refl, ap, ◌∙◌}
-use Prim.Native.Nat.{◌+◌, ◌-◌, ◌≤◌}
+use mathlib.Core.Path.{refl, ap, ◌∙◌}
+use Prim.Native.Nat.{◌+◌}
 use native.Mathlib.Omega.{arith}
-use borrow.Author.Rules.{rules}
-use lib.ListN.{length, get_or, set, length-set}
+use lib.ListN.{get_or, set, length-set}
 use Rattle.base.proofs.Turns.{turns_more}
 use Rattle.ram.specs.InnerBytewise.{copied_bytes}
 use Rattle.ram.proofs.copy_bytes.Goals as goal

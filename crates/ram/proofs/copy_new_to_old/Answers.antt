@@ -1,10 +1,7 @@
 -- `ram::copy_new_to_old` meets its contract. The loop's invariant: the rows passed are copied; the measure is what is left of them.
 use mathlib.Core.Path.{◌≡◌, refl, ◌∙◌}
-use Prim.Native.Nat.{◌+◌, ◌-◌, ◌≤◌}
+use Prim.Native.Nat.{◌+◌, ◌-◌}
 use native.Mathlib.Omega.{arith}
-use borrow.Author.Rules.{rules}
-use lib.ListN.{length}
-use Rattle.base.specs.Turns.{turns}
 use Rattle.base.proofs.Turns.{turns_more}
 use Rattle.ram.specs.Copy.{copied_row, copied}
 use Rattle.ram.proofs.copy_new_to_old.Goals as goal

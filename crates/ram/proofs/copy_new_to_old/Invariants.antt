@@ -1,12 +1,9 @@
 -- `ram::copy_new_to_old` meets its contract. The loop's invariant: the rows passed are copied; the measure is what is left of them.
-use mathlib.Core.Path.{◌≡◌, refl, ◌∙◌}
+use mathlib.Core.Path.{◌≡◌}
 use Prim.Native.Nat.{◌+◌, ◌-◌, ◌≤◌}
-use native.Mathlib.Omega.{arith}
-use borrow.Author.Rules.{rules}
 use lib.ListN.{length}
 use Rattle.base.specs.Turns.{turns}
-use Rattle.base.proofs.Turns.{turns_more}
-use Rattle.ram.specs.Copy.{copied_row, copied}
+use Rattle.ram.specs.Copy.{copied_row}
 use Rattle.ram.proofs.copy_new_to_old.Given as goal
 
 abbrev pub invariant-loop-j : goal.invariant-loop-j

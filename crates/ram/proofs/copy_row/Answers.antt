@@ -1,10 +1,7 @@
 -- `ram::copy_row` meets its contract. The loop's invariant: the columns passed are copied; each turn passes at least one, and the measure is what is left of them.
 use mathlib.Core.Path.{◌≡◌, refl, ◌∙◌}
-use Prim.Native.Nat.{◌+◌, ◌-◌, ◌≤◌}
+use Prim.Native.Nat.{◌+◌, ◌-◌}
 use native.Mathlib.Omega.{arith}
-use borrow.Author.Rules.{rules}
-use lib.ListN.{length}
-use Rattle.ram.specs.Copy.{copied_bits}
 use Rattle.ram.proofs.BytewiseLaws.{copied_join}
 use Rattle.ram.proofs.copy_row.Goals as goal
 

@@ -1,11 +1,8 @@
 -- `ram::copy_row` meets its contract. The loop's invariant: the columns passed are copied; each turn passes at least one, and the measure is what is left of them.
-use mathlib.Core.Path.{◌≡◌, refl, ◌∙◌}
-use Prim.Native.Nat.{◌+◌, ◌-◌, ◌≤◌}
-use native.Mathlib.Omega.{arith}
-use borrow.Author.Rules.{rules}
+use mathlib.Core.Path.{◌≡◌}
+use Prim.Native.Nat.{◌-◌, ◌≤◌}
 use lib.ListN.{length}
 use Rattle.ram.specs.Copy.{copied_bits}
-use Rattle.ram.proofs.BytewiseLaws.{copied_join}
 use Rattle.ram.proofs.copy_row.Given as goal
 
 abbrev pub invariant-loop-done : goal.invariant-loop-done

@@ -3,7 +3,6 @@ use mathlib.Core.Path.{sym, ◌∙◌}
 use Prim.Native.Nat.{◌/◌}
 use native.Mathlib.Omega.{arith}
 use Rattle.ram.proofs.BytewiseLaws.{whole_copied}
-use borrow.Author.Rules.{rules}
 use Rattle.ram.proofs.copy_some.Goals as goal
 
 pub returns-then-at-bytes : goal.returns-then-at-bytes

@@ -1,7 +1,6 @@
 -- `ram::ram_bit` meets its contract, by its two tests.
 use Rattle.ram.specs.Found.{ram_bit}
 use borrow.Author.Tests.{le-ltb, lt-ltb}
-use borrow.Author.Rules.{rules}
 use Rattle.ram.proofs.ram_bit.Goals as goal
 
 pub returns-then-x-ge-RAM_SOURCES : goal.returns-then-x-ge-RAM_SOURCES

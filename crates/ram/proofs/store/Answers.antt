@@ -1,7 +1,6 @@
 -- `ram::store` meets its contract: past the end, nothing.
 use mathlib.Core.Path.{sym}
 use lib.Seq.{set_out}
-use borrow.Author.Rules.{rules}
 use Rattle.ram.proofs.store.Goals as goal
 
 pub returns-else-at-plane : goal.returns-else-at-plane

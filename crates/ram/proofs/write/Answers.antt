@@ -1,7 +1,6 @@
 -- `ram::write` meets its contract: a whole byte inside the area is stored, and else the bits are put one by one.
 use mathlib.Core.Path.{sym, ◌∙◌}
 use native.Mathlib.Omega.{arith}
-use borrow.Author.Rules.{rules}
 use Rattle.ram.proofs.BytewiseLaws.{whole_written}
 use Rattle.ram.proofs.write.Goals as goal
 

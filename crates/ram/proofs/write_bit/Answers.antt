@@ -1,11 +1,9 @@
 -- `ram::write_bit` meets its contract: past the last 16-bit column nothing lies inside, and else the area is asked.
 use mathlib.Core.Path.{sym, ◌∙◌}
 use native.Mathlib.Omega.{arith}
-use borrow.Author.Tests.{not-true, not-false}
 use Rattle.ram.specs.Plane.{put_bit}
 use Rattle.ram.specs.Write.{put_inside}
 use Rattle.ram.proofs.AreaLaws.{inside_past}
-use borrow.Author.Rules.{rules}
 use Rattle.ram.proofs.write_bit.Goals as goal
 
 pub returns-then-x : goal.returns-then-x

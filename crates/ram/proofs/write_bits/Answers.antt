@@ -1,9 +1,7 @@
 -- `ram::write_bits` meets its contract. The loop's invariant: the bits passed are put; the measure is what is left of the eight.
 use mathlib.Core.Path.{◌≡◌, refl, ◌∙◌}
-use Prim.Native.Nat.{◌+◌, ◌-◌, ◌≤◌}
+use Prim.Native.Nat.{◌+◌}
 use native.Mathlib.Omega.{arith}
-use lib.ListN.{length}
-use Rattle.base.specs.Turns.{turns}
 use Rattle.base.proofs.Turns.{turns_more}
 use Rattle.ram.specs.Plane.{bit_of}
 use Rattle.ram.specs.Write.{put_inside, written}

@@ -1,13 +1,10 @@
 -- `ram::write_bits` meets its contract. The loop's invariant: the bits passed are put; the measure is what is left of the eight.
-use mathlib.Core.Path.{◌≡◌, refl, ◌∙◌}
+use mathlib.Core.Path.{◌≡◌}
 use Prim.Native.Nat.{◌+◌, ◌-◌, ◌≤◌}
-use native.Mathlib.Omega.{arith}
 use lib.ListN.{length}
 use Rattle.base.specs.Turns.{turns}
-use Rattle.base.proofs.Turns.{turns_more}
 use Rattle.ram.specs.Plane.{bit_of}
-use Rattle.ram.specs.Write.{put_inside, written}
-use Rattle.ram.proofs.ByteLaws.{bit_small}
+use Rattle.ram.specs.Write.{put_inside}
 use Rattle.ram.proofs.write_bits.Given as goal
 
 abbrev pub invariant-loop-k : goal.invariant-loop-k

@@ -10,10 +10,6 @@ overflow_mul-pixels c =
     let p = c.args.p in
     record { fits = omega (arith, small p.config.panel.sources p.config.panel.gates (search rules) (search rules)) }
 
-pub returns-then-pixels-lt-PIXELS : goal.returns-then-pixels-lt-PIXELS
+pub returns : goal.returns
 unfolding room
-returns-then-pixels-lt-PIXELS c = (omega (arith, c.if-pixels-lt-PIXELS.true), omega (arith, c.if-pixels-lt-PIXELS.true))
-
-pub returns-else-pixels-lt-PIXELS : goal.returns-else-pixels-lt-PIXELS
-unfolding room
-returns-else-pixels-lt-PIXELS c = (omega (arith, c.if-pixels-lt-PIXELS.false), omega arith)
+returns c = (omega (arith, c.min.ensures), omega (arith, c.min.ensures))

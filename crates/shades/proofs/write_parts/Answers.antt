@@ -8,15 +8,15 @@ use Rattle.output.proofs.PartLaws.{part_is, part_within, part_on}
 use Rattle.shades.proofs.write_parts.Goals as goal
 
 pub slice_bounds-emit-end : goal.slice_bounds-emit-end
-slice_bounds-emit-end g c = part_within c.wide_part-part.ensures
+slice_bounds-emit-end g c = part_within c.wide_part-held.ensures
 
 pub slice_bounds-emit-end-in-loop-from : goal.slice_bounds-emit-end-in-loop-from
-slice_bounds-emit-end-in-loop-from g c = sym (length-take-le _ _ (part_within c.wide_part-part.ensures))
+slice_bounds-emit-end-in-loop-from g c = sym (length-take-le _ _ (part_within c.wide_part-held.ensures))
 
 pub emit-requires : goal.emit-requires
 emit-requires g c =
     let from = c.loop-from.from in
-    part_is c.wide_part-part.ensures ∙ ap (units_from from (c.wide_part-part.result.next - from)) c.requires
+    part_is c.wide_part-held.ensures ∙ ap (units_from from (c.wide_part-held.result.next - from)) c.requires
 
 pub loop-from-smaller : goal.loop-from-smaller
-loop-from-smaller g c = omega (arith, part_on c.wide_part-part.ensures, c.if-next-from.false, c.loop-from-test.true)
+loop-from-smaller g c = omega (arith, part_on c.wide_part-held.ensures, c.if-next-from.false, c.loop-from-test.true)

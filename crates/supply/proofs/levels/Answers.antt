@@ -5,7 +5,6 @@ use Prim.Native.Nat.{ℕ}
 use lib.Dec.{T, eqb, eqb→eq}
 use lib.ListN.{get_or}
 use Rattle.base.proofs.Below.{below, at}
-use borrow.Author.Rules.{rules}
 use Rattle.supply.specs.Supply.{supply_level, Listed}
 use Rattle.supply.proofs.levels.Goals as goal
 

@@ -1,14 +1,19 @@
 -- `uc8253::advance` meets its contract: the call comes, and then nothing more (`call_accepted`); or it is turned back (`call_refused`).
 use Rattle.controller.specs.Ask.{new_after, rows_after}
 use Rattle.controller.specs.Ask as ask
+use Rattle.controller.specs.Lent.{held}
+use Rattle.base.proofs.RefusalWords.{handed_on}
 use Rattle.uc8253.proofs.Calls.{call_accepted, call_refused}
 use mathlib.Core.Path.{refl}
-use borrow.Author.Rules.{rules}
 use Rattle.uc8253.proofs.advance.Goals as goal
 
-pub returns-then-none : goal.returns-then-none
-unfolding new_after rows_after
-returns-then-none c = call_accepted (ask.advance c.args.at) refl _ _ (c.come-refused.ensures.gives, c.come-refused.ensures.rows_value) c.none.ensures c.if-none.true c.after_advance-chip.ensures refl refl refl
+pub returns-in_err-come-clause-called : goal.returns-in_err-come-clause-called
+returns-in_err-come-clause-called c =
+    rw (handed_on _ _ c.from_residual.ensures.1)
+    (call_refused (ask.advance c.args.at) refl c.args.p (held c.args.lent.now) c.come.ensures.comes _ c.in_err-come.ensures.gives)
 
-pub returns : goal.returns
-returns c = call_refused (ask.advance c.args.at) refl _ _ (c.come-refused.ensures.gives, c.come-refused.ensures.rows_value) c.none.ensures c.if-none.false
+pub returns-clause-called : goal.returns-clause-called
+unfolding new_after rows_after
+returns-clause-called c =
+    call_accepted (ask.advance c.args.at) refl c.args.p (held c.args.lent.now) c.come.ensures.comes c.in_ok-come.ensures.gives c.after_advance.ensures
+    refl refl refl refl refl

@@ -1,23 +1,27 @@
 -- `uc8253::read_data` meets its contract: the call comes, and then the read (`call_accepted`); or it is turned back (`call_refused`).
-use Rattle.uc8253.proofs.Calls.{read_accepted, read_refused, call_accepted, call_refused}
 use Rattle.controller.specs.Ask.{new_after}
 use Rattle.controller.specs.Ask as ask
+use Rattle.controller.specs.Lent.{held}
+use Rattle.base.proofs.RefusalWords.{handed_on}
+use Rattle.uc8253.proofs.Calls.{call_accepted, call_refused, read_accepted, read_refused}
 use mathlib.Core.Path.{refl}
-use borrow.Author.Rules.{rules}
 use Rattle.uc8253.proofs.read_data.Goals as goal
 
-pub shape_of-old-then-none : goal.shape_of-old-then-none
-shape_of-old-then-none c = c.come-refused.auto.old
+pub returns-in_err-come-clause-called : goal.returns-in_err-come-clause-called
+returns-in_err-come-clause-called c =
+    rw (handed_on _ _ c.from_residual.ensures.1)
+    (call_refused (ask.reading c.args.at) refl c.args.p (held c.args.lent.now) c.come.ensures.comes _ c.in_err-come.ensures.gives)
 
-pub shape_of-states-then-none : goal.shape_of-states-then-none
-shape_of-states-then-none c = c.come-refused.auto.states
-
-pub shape_of-picture-then-none : goal.shape_of-picture-then-none
-shape_of-picture-then-none c = c.come-refused.auto.picture
-
-pub returns-then-none : goal.returns-then-none
+pub returns-clause-called : goal.returns-clause-called
 unfolding new_after
-returns-then-none c = record { called = call_accepted (ask.reading c.args.at) refl _ _ (c.come-refused.ensures.gives, c.come-refused.ensures.rows_value) c.none.ensures c.if-none.true c.after_read-chip.ensures refl refl c.lend_read.ensures; answers = read_accepted _ _ _ c.come-refused.ensures.gives c.none.ensures c.if-none.true c.arrive.ensures c.read_of-byte.ensures }
+returns-clause-called c =
+    call_accepted (ask.reading c.args.at) refl c.args.p (held c.args.lent.now) c.come.ensures.comes c.in_ok-come.ensures.gives c.after_read-chip.ensures
+    refl refl refl refl c.lend_read.ensures
 
-pub returns : goal.returns
-returns c = record { called = call_refused (ask.reading c.args.at) refl _ _ (c.come-refused.ensures.gives, c.come-refused.ensures.rows_value) c.none.ensures c.if-none.false; answers = read_refused _ _ _ c.come-refused.ensures.gives c.none.ensures c.if-none.false }
+pub returns-in_err-come-clause-answers : goal.returns-in_err-come-clause-answers
+returns-in_err-come-clause-answers c =
+    rw (handed_on _ _ c.from_residual.ensures.1) (read_refused c.args.at c.args.p (held c.args.lent.now) _ c.in_err-come.ensures.gives)
+
+pub returns-clause-answers : goal.returns-clause-answers
+returns-clause-answers c =
+    read_accepted c.args.at c.args.p (held c.args.lent.now) c.in_ok-come.ensures.gives c.arrive.ensures c.read_of-byte.ensures

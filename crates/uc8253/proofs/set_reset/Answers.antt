@@ -1,17 +1,19 @@
 -- `uc8253::set_reset` meets its contract: the call comes, and then the edge (`call_accepted`); or it is turned back (`call_refused`).
 use Rattle.controller.specs.Ask.{new_after}
 use Rattle.controller.specs.Ask as ask
+use Rattle.controller.specs.Lent.{held}
+use Rattle.base.proofs.RefusalWords.{handed_on}
 use Rattle.uc8253.proofs.Calls.{call_accepted, call_refused}
 use mathlib.Core.Path.{refl}
-use borrow.Author.Rules.{rules}
 use Rattle.uc8253.proofs.set_reset.Goals as goal
 
-pub shape_of-old-then-none : goal.shape_of-old-then-none
-shape_of-old-then-none c = c.come-refused.auto.old
+pub returns-in_err-come-clause-called : goal.returns-in_err-come-clause-called
+returns-in_err-come-clause-called c =
+    rw (handed_on _ _ c.from_residual.ensures.1)
+    (call_refused (ask.reset c.args.at c.args.asserted) refl c.args.p (held c.args.lent.now) c.come.ensures.comes _ c.in_err-come.ensures.gives)
 
-pub returns-then-none : goal.returns-then-none
+pub returns-clause-called : goal.returns-clause-called
 unfolding new_after
-returns-then-none c = call_accepted (ask.reset c.args.at c.args.asserted) refl _ _ (c.come-refused.ensures.gives, c.come-refused.ensures.rows_value) c.none.ensures c.if-none.true c.after_reset-chip.ensures refl refl c.lend_reset.ensures
-
-pub returns : goal.returns
-returns c = call_refused (ask.reset c.args.at c.args.asserted) refl _ _ (c.come-refused.ensures.gives, c.come-refused.ensures.rows_value) c.none.ensures c.if-none.false
+returns-clause-called c =
+    call_accepted (ask.reset c.args.at c.args.asserted) refl c.args.p (held c.args.lent.now) c.come.ensures.comes c.in_ok-come.ensures.gives c.after_reset.ensures
+    refl refl refl refl c.lend_reset.ensures

@@ -1,21 +1,17 @@
 -- `uc8253::write_data` meets its contract: the call comes, and then the data byte (`call_accepted`); or it is turned back (`call_refused`).
-use mathlib.Core.Path.{◌∙◌, refl}
 use Rattle.controller.specs.Ask as ask
+use Rattle.controller.specs.Lent.{held}
+use Rattle.base.proofs.RefusalWords.{handed_on}
 use Rattle.uc8253.proofs.Calls.{call_accepted, call_refused}
-use borrow.Author.Rules.{rules}
+use mathlib.Core.Path.{refl}
 use Rattle.uc8253.proofs.write_data.Goals as goal
 
-pub shape_of-old-then-none : goal.shape_of-old-then-none
-shape_of-old-then-none c = c.lend_data.auto.old ∙ c.come-refused.auto.old
+pub returns-in_err-come-clause-called : goal.returns-in_err-come-clause-called
+returns-in_err-come-clause-called c =
+    rw (handed_on _ _ c.from_residual.ensures.1)
+    (call_refused (ask.datum c.args.at c.args.byte) refl c.args.p (held c.args.lent.now) c.come.ensures.comes _ c.in_err-come.ensures.gives)
 
-pub shape_of-states-then-none : goal.shape_of-states-then-none
-shape_of-states-then-none c = c.come-refused.auto.states
-
-pub shape_of-picture-then-none : goal.shape_of-picture-then-none
-shape_of-picture-then-none c = c.come-refused.auto.picture
-
-pub returns-then-none : goal.returns-then-none
-returns-then-none c = call_accepted (ask.datum c.args.at c.args.byte) refl _ _ (c.come-refused.ensures.gives, c.come-refused.ensures.rows_value) c.none.ensures c.if-none.true c.after_data-chip.ensures c.lend_data.ensures.0 c.lend_data.ensures.1 c.lend_data.ensures.2
-
-pub returns : goal.returns
-returns c = call_refused (ask.datum c.args.at c.args.byte) refl _ _ (c.come-refused.ensures.gives, c.come-refused.ensures.rows_value) c.none.ensures c.if-none.false
+pub returns-clause-called : goal.returns-clause-called
+returns-clause-called c =
+    call_accepted (ask.datum c.args.at c.args.byte) refl c.args.p (held c.args.lent.now) c.come.ensures.comes c.in_ok-come.ensures.gives c.after_data.ensures
+    c.lend_data.ensures.planes.0 c.lend_data.ensures.planes.1 c.lend_data.ensures.glass.0 c.lend_data.ensures.glass.1 c.lend_data.ensures.rows

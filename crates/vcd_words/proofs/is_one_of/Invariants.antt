@@ -1,12 +1,11 @@
--- `vcd_words::is_one_of` meets its contract. The invariant: it is one of those from the place on where it is one of all; the measure is what is left.
+-- `vcd_words::is_one_of` meets its contract. The invariant: it is one of the words left where it is one of all; the measure is what is left.
 use mathlib.Core.Path.{◌≡◌}
-use Prim.Native.Nat.{◌-◌, ◌≤◌}
-use lib.ListN.{length, drop}
+use lib.ListN.{length}
 use Rattle.vcd_words.specs.Words.{words, among}
 use Rattle.vcd_words.proofs.is_one_of.Given as goal
 
-abbrev pub invariant-loop-at : goal.invariant-loop-at
-invariant-loop-at l = (among (words (drop l.at l.list)) l.word ≡ among (words l.list) l.word) × (l.at ≤ length l.list)
+abbrev pub invariant-loop-w : goal.invariant-loop-w
+invariant-loop-w l = among (words l.rest) l.word ≡ among (words l.list) l.word
 
-abbrev pub decreases-loop-at : goal.decreases-loop-at
-decreases-loop-at l = length l.list - l.at
+abbrev pub decreases-loop-w : goal.decreases-loop-w
+decreases-loop-w l = length l.rest

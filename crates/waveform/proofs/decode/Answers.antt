@@ -1,12 +1,11 @@
 -- `waveform::decode` meets its contract. The loop's invariant: the tables so far are those of the first LUTs.
 use mathlib.Core.Path.{◌≡◌, refl, sym, ap, ◌∙◌}
-use mathlib.Core.List.{List, []}
-use Prim.Native.Nat.{ℕ, ◌-◌, ◌≤◌}
+use mathlib.Core.List.{[]}
+use Prim.Native.Nat.{ℕ}
 use native.Mathlib.Omega.{arith}
-use lib.ListN.{length, take, get_or, length-set}
+use lib.ListN.{length, length-set}
 use Rattle.base.specs.Listed.{listed}
 use Rattle.base.proofs.Listed.{filled_more, filled, map_listed}
-use Rattle.waveform.specs.declared.Group.{Group}
 use Rattle.waveform.specs.Tables.{table_of}
 use borrow.Author.Rules.{rules}
 use Rattle.waveform.proofs.decode.Invariants.{decoded}

@@ -1,12 +1,9 @@
 -- `waveform::decode_table` meets its contract. The loop's invariant: the groups so far are the table's first.
-use mathlib.Core.Path.{◌≡◌, refl}
-use Prim.Native.Nat.{◌-◌, ◌≤◌}
+use mathlib.Core.Path.{refl}
 use native.Mathlib.Omega.{arith}
-use lib.ListN.{length, take, length-set}
-use Rattle.base.specs.Listed.{listed}
+use lib.ListN.{length-set}
 use Rattle.base.proofs.Listed.{filled_more, filled}
 use Rattle.waveform.specs.Tables.{group_of}
-use borrow.Author.Rules.{rules}
 use Rattle.waveform.proofs.decode_table.Goals as goal
 
 pub loop-k-init : goal.loop-k-init

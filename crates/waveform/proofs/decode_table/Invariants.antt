@@ -1,12 +1,9 @@
 -- `waveform::decode_table` meets its contract. The loop's invariant: the groups so far are the table's first.
-use mathlib.Core.Path.{◌≡◌, refl}
+use mathlib.Core.Path.{◌≡◌}
 use Prim.Native.Nat.{◌-◌, ◌≤◌}
-use native.Mathlib.Omega.{arith}
-use lib.ListN.{length, take, length-set}
+use lib.ListN.{length, take}
 use Rattle.base.specs.Listed.{listed}
-use Rattle.base.proofs.Listed.{filled_more, filled}
 use Rattle.waveform.specs.Tables.{group_of}
-use borrow.Author.Rules.{rules}
 use Rattle.waveform.proofs.decode_table.Given as goal
 
 abbrev pub invariant-loop-k : goal.invariant-loop-k

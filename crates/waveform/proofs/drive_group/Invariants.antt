@@ -1,20 +1,9 @@
 -- `waveform::drive_group` meets its contract. After i rounds the run extends the first by their frames.
-use borrow.Author.Rules.{rules}
-use mathlib.Core.Path.{subst}
-use mathlib.Core.List.{List}
-use Prim.Native.Nat.{ℕ, ◌-◌, ◌≤◌}
-use native.Mathlib.Omega.{arith}
-use lib.IntN.{ℤ}
 use Rattle.base.specs.InTurn.{in_turn}
-use Rattle.base.proofs.InTurn.{in_turn_more}
 use Rattle.waveform.specs.Frames.{round_frames}
 use Rattle.waveform.specs.InnerProgress.{Extends}
-use Rattle.waveform.proofs.ProgressLaws.{extends_none, extends_more}
 use Rattle.waveform.proofs.drive_group.Given as goal
 
 abbrev pub invariant-loop-i : goal.invariant-loop-i
-invariant-loop-i l = Extends l.swing l.initial.q l.q (in_turn l.i (λ j. round_frames l.supply.levels l.supply.frame_ns l.supply.positive_drives_black l.group l.vcom)) ×
-    (l.i ≤ l.repeats)
-
-abbrev pub decreases-loop-i : goal.decreases-loop-i
-decreases-loop-i l = l.repeats - l.i
+invariant-loop-i l =
+    Extends l.swing l.initial.q l.q (in_turn l.i (λ j. round_frames l.supply.levels l.supply.frame_ns l.supply.positive_drives_black l.group l.vcom))

@@ -1,17 +1,12 @@
 -- `waveform::drive_round` meets its contract. After i phases the run extends the first by their frames.
-use borrow.Author.Rules.{rules}
-use mathlib.Core.Path.{subst}
 use mathlib.Core.List.{List}
-use Prim.Native.Nat.{ℕ, ◌-◌, ◌≤◌}
-use native.Mathlib.Omega.{arith}
+use Prim.Native.Nat.{ℕ}
 use lib.ListN.{get_or, replicate}
 use lib.IntN.{ℤ}
 use Rattle.base.specs.InTurn.{in_turn}
-use Rattle.base.proofs.InTurn.{in_turn_more}
 use Rattle.waveform.specs.declared.Supply.{Supply}
 use Rattle.waveform.specs.Frames.{drive_of}
 use Rattle.waveform.specs.InnerProgress.{Extends}
-use Rattle.waveform.proofs.ProgressLaws.{extends_none, extends_more}
 use Rattle.waveform.proofs.drive_round.Given as goal
 
 -- the drive and the frames of phase p
@@ -23,7 +18,4 @@ abbrev pub frames_at : Supply → List ℕ → List ℕ → List ℕ → ℕ →
 frames_at supply codes vcom frames p = replicate (get_or frames p 0) (driveAt supply codes vcom p)
 
 abbrev pub invariant-loop-i : goal.invariant-loop-i
-invariant-loop-i l = Extends l.swing l.initial.q l.q (in_turn l.i (frames_at l.supply l.codes l.vcom l.frames)) × (l.i ≤ 4)
-
-abbrev pub decreases-loop-i : goal.decreases-loop-i
-decreases-loop-i l = 4 - l.i
+invariant-loop-i l = Extends l.swing l.initial.q l.q (in_turn l.i (frames_at l.supply l.group.codes l.vcom l.group.frames))

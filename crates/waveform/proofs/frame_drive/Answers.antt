@@ -10,7 +10,6 @@ use Rattle.base.specs.Word.{top}
 use Rattle.waveform.specs.Levels.{level_of_code, floats}
 use Rattle.waveform.specs.Frames.{drive_of}
 use Rattle.waveform.proofs.DriveLaws.{rise, fall, drives_white, drives_black}
-use borrow.Author.Rules.{rules}
 use Rattle.waveform.proofs.frame_drive.Goals.{After-energy-fall, Start}
 use Rattle.waveform.proofs.frame_drive.Goals as goal
 

@@ -6,7 +6,4 @@ use Rattle.capture.specs.Refused.{all_listed}
 use Rattle.capture.proofs.refusals.all_listed.Given as goal
 
 abbrev pub invariant-loop-i : goal.invariant-loop-i
-invariant-loop-i l = (all_listed l.file l.i ≡ true) × (l.i ≤ l.count)
-
-abbrev pub decreases-loop-i : goal.decreases-loop-i
-decreases-loop-i l = l.count - l.i
+invariant-loop-i l = all_listed l.file l.i ≡ true

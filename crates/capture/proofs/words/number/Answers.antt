@@ -30,9 +30,6 @@ overflow_add-value c =
     let most = word_fits {j = a.n - (l.k - 1)} (omega arith) sum in
     record { fits = most }
 
-pub loop-k-smaller : goal.loop-k-smaller
-loop-k-smaller c = omega arith
-
 pub loop-k-preserved : goal.loop-k-preserved
 loop-k-preserved c =
     let l = c.loop-k in

@@ -6,6 +6,3 @@ use Rattle.capture.proofs.words.number.Given as goal
 
 abbrev pub invariant-loop-k : goal.invariant-loop-k
 invariant-loop-k l = (l.value ≡ little l.bytes (l.at + l.k) (l.n - l.k)) × (l.value < 256 ^ (l.n - l.k)) × (l.k ≤ l.n)
-
-abbrev pub decreases-loop-k : goal.decreases-loop-k
-decreases-loop-k l = l.k

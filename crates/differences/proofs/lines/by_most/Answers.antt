@@ -1,12 +1,14 @@
--- `differences::lines::by_most` meets its contract: a distance where some differ.
+-- `differences::lines::by_most` meets its contract: none differs, or some do.
+use Rattle.std.proofs.Common.{append_assoc}
 use borrow.Author.Tests.{eq-eqb, ne_eqb}
-use Rattle.text.proofs.Filling.{puts_then}
+use Rattle.text.proofs.Filling.{put_put}
+use Rattle.differences.proofs.lines.by_most.Goals.{then-d-ne0, else-d-ne0}
 use Rattle.differences.proofs.lines.by_most.Goals as goal
-
-pub returns-then-d-eq0 : goal.returns-then-d-eq0
-returns-then-d-eq0 c =
-    rw (eq-eqb _ 0 c.if-d-eq0.true) c.byte.ensures
 
 pub returns : goal.returns
 returns c =
-    rw (ne_eqb _ 0 c.if-d-eq0.false) (puts_then (puts_then c.put-n.ensures c.number-end.ensures) c.byte-2.ensures)
+    elim c.if-d-ne0.branch [
+      | then-d-ne0 w ↦
+          rw (c.byte.ensures, w.text-is, w.number.ensures, w.put.ensures) (simp (ne_eqb _ _ w.if-d-ne0.true, put_put, append_assoc))
+      | else-d-ne0 w ↦ rw (c.byte.ensures, w.text-is) (simp (eq-eqb _ _ w.if-d-ne0.false))
+    ]

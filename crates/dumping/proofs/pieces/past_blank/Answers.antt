@@ -1,7 +1,6 @@
 -- `dumping::pieces::past_blank` meets its contract: the next word lies behind the place and ends in the bytes.
 use native.Mathlib.Omega.{arith}
 use Rattle.vcd_words.proofs.SpanLaws.{next_is}
-use borrow.Author.Rules.{rules}
 use Rattle.dumping.proofs.pieces.past_blank.Goals as goal
 
 pub returns-then-w-bytes : goal.returns-then-w-bytes

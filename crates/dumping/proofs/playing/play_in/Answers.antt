@@ -1,35 +1,26 @@
 -- `dumping::playing::play_in` meets its contract: made, read and judged.
-use mathlib.Core.Path.{◌∙◌}
-use Rattle.dumping.proofs.PlayLaws.{came_as}
+use mathlib.Core.Path.{ap, ◌∙◌}
 use borrow.Author.Rules.{rules}
+use Rattle.base.specs.RefusalNumbers.{number_of}
+use Rattle.controller.specs.World.{Buffers, buffers, world}
+use Rattle.controller.specs.declared.Uc8253.{Uc8253}
+use Rattle.controller.specs.Lent.{held}
+use Rattle.shades.proofs.ShadeLaws.{number_err}
+use Rattle.showing.proofs.Written.{chip_left}
+use Rattle.dumping.proofs.PlayLaws.{came_as, dumps_in}
 use Rattle.dumping.proofs.playing.play_in.Goals as goal
-
-pub shape_of-old : goal.shape_of-old
-shape_of-old g c =
-    c.read_dump-c.auto.old ∙ c.make-made.auto.old
-
-pub shape_of-new : goal.shape_of-new
-shape_of-new g c =
-    c.read_dump-c.auto.new ∙ c.make-made.auto.new
-
-pub shape_of-states : goal.shape_of-states
-shape_of-states g c =
-    c.read_dump-c.auto.states ∙ c.make-made.auto.states
-
-pub shape_of-picture : goal.shape_of-picture
-shape_of-picture g c =
-    c.read_dump-c.auto.picture ∙ c.make-made.auto.picture
-
-pub shape_of-rows : goal.shape_of-rows
-shape_of-rows g c =
-    c.read_dump-c.auto.rows ∙ c.make-made.auto.rows
 
 pub returns : goal.returns
 returns g c =
-    let t = c.read_dump-c.ensures in
-    record {
+    let a = c.args in
+    let b : Buffers = buffers a.old.now a.new.now a.states.now a.picture.now a.rows.now in
+    let t = c.read_dump-c.ensures.read in
+    let m = c.make-made.ensures.makes in
+    dumps_in (search rules) (search rules) (search rules) (search rules) (search rules)
+    (record {
       dump = t.dump;
-      came_to = came_as c.args.config.now c.requires _ _ c.make-made.result.refused
-          c.make-made.ensures.0 c.make-made.ensures.1 c.came_of-came.result c.read_dump-c.result.verdict t.dump _ _ _
-          c.came_of-came.ensures t.tells;
-    }
+      came_to = came_as a.config.now c.requires b _ _
+          (ap (λ (p : Uc8253). world p (held c.make-made.new.lent)) (chip_left c.make-made.result c.unwrap_or-p.ensures c.zeros.ensures) ∙ m.0)
+          (ap number_of c.err.ensures.value ∙ number_err _ ∙ m.1)
+          c.came_of.result c.read_dump-c.result.ending t.dump _ _ _ c.came_of.ensures t.tells;
+    })

@@ -1,11 +1,7 @@
 -- `dumping::writing::write_parts` meets what it calls asks: each part is units of the output. The measure is the units that are left.
-use mathlib.Core.List.{List, []}
-use mathlib.Core.Path.{sym, ap, ◌∙◌}
-use Prim.Native.Nat.{ℕ, ◌-◌}
+use mathlib.Core.Path.{sym}
 use native.Mathlib.Omega.{arith}
 use lib.Seq.{length-take-le}
-use Rattle.output.specs.Parts.{units_from}
-use Rattle.output.specs.Units.{units_of}
 use Rattle.output.proofs.PartLaws.{part_is, part_within, part_on}
 use Rattle.dumping.proofs.writing.write_parts.Goals as goal
 
@@ -16,10 +12,7 @@ pub slice_bounds-emit-end-in-loop-from : goal.slice_bounds-emit-end-in-loop-from
 slice_bounds-emit-end-in-loop-from g c = sym (length-take-le _ _ (part_within c.next_part-part.ensures))
 
 pub emit-requires : goal.emit-requires
-emit-requires g c =
-    let a = c.args in
-    part_is c.next_part-part.ensures ∙ ap (λ (l : List ℕ). units_from c.loop-from.from
-    (c.next_part-part.result.next - c.loop-from.from) (units_of a.form a.o [] l a.picture.now a.rows.now)) c.requires
+emit-requires g c = part_is c.next_part-part.ensures
 
 pub loop-from-smaller : goal.loop-from-smaller
 loop-from-smaller g c =

@@ -1,45 +1,27 @@
 -- `events::playing::play` meets its contract: the making, then the run of the events.
-use mathlib.Core.Path.{◌∙◌}
-use Rattle.controller.specs.World.{Buffers, buffers}
-use Rattle.base.proofs.RefusalWords.{told}
+use Rattle.controller.specs.Lent.{held}
+use Rattle.base.proofs.RefusalWords.{taken, turned, handed_on}
 use Rattle.events.proofs.PlayLaws.{making_no, answers_no, making_yes, answers_yes}
-use borrow.Author.Rules.{rules}
 use Rattle.events.proofs.playing.play.Goals as goal
 
-pub shape_of-old-then-none : goal.shape_of-old-then-none
-shape_of-old-then-none c =
-    c.run-ran.auto.old ∙ c.power_on-made.auto.old
-
-pub shape_of-new-then-none : goal.shape_of-new-then-none
-shape_of-new-then-none c =
-    c.run-ran.auto.new ∙ c.power_on-made.auto.new
-
-pub shape_of-states-then-none : goal.shape_of-states-then-none
-shape_of-states-then-none c =
-    c.run-ran.auto.states ∙ c.power_on-made.auto.states
-
-pub shape_of-picture-then-none : goal.shape_of-picture-then-none
-shape_of-picture-then-none c =
-    c.run-ran.auto.picture ∙ c.power_on-made.auto.picture
-
-pub shape_of-rows-then-none : goal.shape_of-rows-then-none
-shape_of-rows-then-none c =
-    c.run-ran.auto.rows ∙ c.power_on-made.auto.rows
-
-pub returns-then-none : goal.returns-then-none
-returns-then-none c =
+pub returns-in_err-chip-clause-makes : goal.returns-in_err-chip-clause-makes
+returns-in_err-chip-clause-makes c =
     let a = c.args in
-    let b : Buffers = buffers a.old.now a.new.now a.states.now a.picture.now a.rows.now in
-    let h = told c.none.ensures c.power_on-made.ensures.1 c.if-none.true in record {
-      makes = (
-        making_yes a.config a.events.now b h _ c.power_on-made.ensures.0 _ c.run-ran.ensures.done.0,
-        c.power_on-made.ensures.1,
-      );
-      answers_after = answers_yes a.config a.events.now b h _ c.power_on-made.ensures.0 a.answers.now _ c.run-ran.ensures.gives;
-    }
+    let m = c.in_err-chip.ensures.makes in
+    rw (handed_on _ _ c.from_residual.ensures.1) (making_no a.config a.events.now (held a.lent.now) (turned _ m.1) _ m.0, m.1)
 
-pub returns : goal.returns
-returns c =
+pub returns-in_err-chip-clause-answers_after : goal.returns-in_err-chip-clause-answers_after
+returns-in_err-chip-clause-answers_after c =
+    let a = c.args in answers_no a.config a.events.now (held a.lent.now) (turned _ c.in_err-chip.ensures.makes.1) a.answers.now
+
+pub returns-clause-makes : goal.returns-clause-makes
+returns-clause-makes c =
     let a = c.args in
-    let b : Buffers = buffers a.old.now a.new.now a.states.now a.picture.now a.rows.now in
-    let h = told c.none.ensures c.power_on-made.ensures.1 c.if-none.false in record { makes = (making_no a.config a.events.now b h _ c.power_on-made.ensures.0, c.power_on-made.ensures.1); answers_after = answers_no a.config a.events.now b h a.answers.now }
+    let m = c.in_ok-chip.ensures.makes in
+    (making_yes a.config a.events.now (held a.lent.now) (taken m.1) _ m.0 _ c.run-ran.ensures.done.0, m.1)
+
+pub returns-clause-answers_after : goal.returns-clause-answers_after
+returns-clause-answers_after c =
+    let a = c.args in
+    let m = c.in_ok-chip.ensures.makes in
+    answers_yes a.config a.events.now (held a.lent.now) (taken m.1) _ m.0 a.answers.now _ c.run-ran.ensures.gives

@@ -5,4 +5,4 @@ use borrow.Author.Rules.{rules}
 use Rattle.lending.proofs.refreshes.drive_first.Goals as goal
 
 pub returns : goal.returns
-returns c = c.drive_panel.ensures ∙ driven_now _ _ _ _ _ _ c.requires.0 c.transfer_first-ww.ensures c.transfer_first-kw.ensures c.transfer_first-wk.ensures c.transfer_first-kk.ensures c.args.p _ _ _ _ c.mapping.ensures c.requires.1
+returns c = c.drive_panel.ensures ∙ driven_now _ _ _ _ _ _ c.requires.0 c.transfer_first.ensures c.transfer_first-2.ensures c.transfer_first-3.ensures c.transfer_first-4.ensures c.args.p _ _ _ _ c.mapping.ensures c.requires.1

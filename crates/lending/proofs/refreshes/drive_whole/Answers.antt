@@ -5,4 +5,4 @@ use borrow.Author.Rules.{rules}
 use Rattle.lending.proofs.refreshes.drive_whole.Goals as goal
 
 pub returns : goal.returns
-returns c = c.drive_panel.ensures ∙ driven_now _ _ _ _ _ _ c.requires.0 c.transfer-ww.ensures c.transfer-kw.ensures c.transfer-wk.ensures c.transfer-kk.ensures c.args.p _ _ _ _ c.mapping.ensures c.requires.1
+returns c = c.drive_panel.ensures ∙ driven_now _ _ _ _ _ _ c.requires.0 c.transfer.ensures c.transfer-2.ensures c.transfer-3.ensures c.transfer-4.ensures c.args.p _ _ _ _ c.mapping.ensures c.requires.1

@@ -1,5 +1,4 @@
 -- `numbers::eights::eight` meets its contract: four less the old bit and twice the new one, byte by byte.
-use borrow.Author.Rules.{rules}
 use Rattle.numbers.proofs.EightLaws.{eight_numbers}
 use Rattle.numbers.proofs.eights.eight.Goals as goal
 

@@ -1,31 +1,19 @@
 -- `output::lines::greys` meets its contract: the first grey, and then each behind a blank.
-use borrow.Author.Rules.{rules}
-use Rattle.text.proofs.Filling.{puts_then, puts_as, puts_nothing, puts_within}
-use Rattle.output.proofs.Words.{greys_more, greys_all, greys_none}
+use Rattle.std.proofs.Common.{◌∙◌, ap, List, ℕ}
+use Rattle.text.specs.Text.{put}
+use Rattle.text.proofs.Filling.{put_put}
+use Rattle.output.proofs.Words.{greys_row, greys_none}
+use Rattle.output.proofs.lines.greys.Goals.{in-Some+else-loop-x-test, in_default}
 use Rattle.output.proofs.lines.greys.Goals as goal
-
-pub returns-then-row-eq0 : goal.returns-then-row-eq0
-returns-then-row-eq0 c =
-    puts_as c.byte.ensures (greys_none c.args.row.now c.if-row-eq0.true)
-
-pub loop-x-init : goal.loop-x-init
-loop-x-init c =
-    let first = c.decimal-n.ensures in
-    (puts_nothing _ _ (puts_within first), search rules, search rules, search rules)
-
-pub loop-x-preserved : goal.loop-x-preserved
-loop-x-preserved c =
-    let row = c.args.row.now in
-    let put = puts_then c.loop-x.invariant.0 c.number-n.ensures in (
-      puts_as put (greys_more row c.loop-x.x c.loop-x.invariant.1 c.loop-x-test.true),
-      search rules,
-      search rules,
-      search rules,
-    )
 
 pub returns : goal.returns
 returns c =
+    let t = c.args.text.now in
     let row = c.args.row.now in
-    let two = puts_then c.decimal-n.ensures c.loop-x.invariant.0 in
-    puts_as (puts_then two c.byte-2.ensures)
-    (greys_all row c.loop-x.x c.loop-x.invariant.1 (search rules) c.loop-x-test.false)
+    elim c.match-split_first.branch [
+      | in-Some+else-loop-x-test w ↦
+          c.byte.ensures
+          ∙ rw (w.text-is, w.loop-x.invariant, w.decimal.ensures, put_put, put_put)
+          (ap (λ (u : List ℕ). put u t) (greys_row row w.in-Some.rest.now w.in-Some.first.now _ w.in-Some.ensures.cases.0 w.loop-x-test.false))
+      | in_default w ↦ c.byte.ensures ∙ rw w.text-is (ap (λ (u : List ℕ). put u t) (greys_none row w.in_default.ensures.cases))
+    ]

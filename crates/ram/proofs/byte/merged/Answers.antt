@@ -1,10 +1,9 @@
 -- `ram::byte::merged` meets its contract. The loop's invariant: the bits passed are put; the measure is what is left of them. All eight bits are the byte itself.
 use mathlib.Core.Path.{◌≡◌, refl, sym, ◌∙◌}
-use Prim.Native.Nat.{◌+◌, ◌-◌, ◌≤◌}
+use Prim.Native.Nat.{◌+◌}
 use native.Mathlib.Omega.{arith}
 use Rattle.base.proofs.Turns.{turns_more}
 use Rattle.ram.specs.Plane.{bit_of, with_bit}
-use Rattle.ram.specs.InnerBytewise.{merge}
 use Rattle.ram.proofs.ByteLaws.{bit_small, merge_whole}
 use Rattle.ram.proofs.byte.merged.Goals as goal
 

@@ -2,7 +2,6 @@
 use mathlib.Core.Path.{◌≡◌, ap, ◌∙◌}
 use Prim.Native.Nat.{ℕ, ◌-◌, ◌*◌, ◌%◌, ◌^◌}
 use native.Mathlib.Omega.{arith}
-use borrow.Author.Rules.{rules}
 use Rattle.ram.specs.Plane.{bit_of, with_bit}
 use Rattle.ram.proofs.ByteLaws.{with_bit_byte, bit_small, bit_within, shifted}
 use Rattle.ram.proofs.byte.with_bit.Goals.{After-bit_of}

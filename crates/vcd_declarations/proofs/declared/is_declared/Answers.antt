@@ -2,6 +2,7 @@
 use mathlib.Core.Path.{sym, ap, ◌∙◌}
 use Prim.Native.Nat.{◌<◌}
 use native.Mathlib.Omega.{arith}
+use borrow.Author.Tests.{eqb-true, eqb-false}
 use Rattle.vcd_words.specs.Words.{words}
 use Rattle.vcd_words.specs.Places.{part}
 use Rattle.vcd_words.proofs.SpanLaws.{next_is}
@@ -47,36 +48,36 @@ returns-then-not-begins c =
     let known = sym (ap begins c.sorted-k.ensures) ∙ sym c.begins.ensures ∙ c.if-not-begins.true in
     none_begun bytes code c.loop-at.at g c.next_word-w.result next known
 
-pub find_end-e-requires : goal.find_end-e-requires
-find_end-e-requires c =
+pub find_end-end-requires : goal.find_end-end-requires
+find_end-end-requires c =
     let bytes = c.args.bytes.now in
     let code = c.args.code.now in
     let g = c.loop-at.invariant in
     let next = next_is bytes c.loop-at.at c.next_word-w.result c.next_word-w.ensures g.inside in
     record { at_in_bounds = next.inside; shut = record { no_solid = next.shuts } }
 
-pub returns-then-end-past : goal.returns-then-end-past
-returns-then-end-past c =
+pub returns-then-is_empty : goal.returns-then-is_empty
+returns-then-is_empty c =
     let bytes = c.args.bytes.now in
     let code = c.args.code.now in
     let g = c.loop-at.invariant in
     let next = next_is bytes c.loop-at.at c.next_word-w.result c.next_word-w.ensures g.inside in
     let known = sym (ap begins c.sorted-k.ensures) ∙ sym c.begins.ensures ∙ c.if-not-begins.false in
-    none_half bytes code c.loop-at.at g c.next_word-w.result next known c.find_end-e.result c.find_end-e.ensures c.if-end-past.true
+    none_half bytes code c.loop-at.at g c.next_word-w.result next known c.find_end-end.result c.find_end-end.ensures (eqb-true _ _ (sym c.is_empty.ensures ∙ c.if-is_empty.true))
 
 pub slice_bounds-has_code-count : goal.slice_bounds-has_code-count
 slice_bounds-has_code-count c =
-    let found = c.find_end-e.ensures in
+    let found = c.find_end-end.ensures in
     found.behind
 
 pub slice_bounds-has_code-start : goal.slice_bounds-has_code-start
 slice_bounds-has_code-start c =
-    let found = c.find_end-e.ensures in
+    let found = c.find_end-end.ensures in
     found.behind
 
 pub slice_bounds-has_code-end : goal.slice_bounds-has_code-end
 slice_bounds-has_code-end c =
-    let found = c.find_end-e.ensures in
+    let found = c.find_end-end.ensures in
     omega (arith, found.ordered, found.inside)
 
 pub returns-then-has_code : goal.returns-then-has_code
@@ -86,9 +87,9 @@ returns-then-has_code c =
     let g = c.loop-at.invariant in
     let next = next_is bytes c.loop-at.at c.next_word-w.result c.next_word-w.ensures g.inside in
     let known = sym (ap begins c.sorted-k.ensures) ∙ sym c.begins.ensures ∙ c.if-not-begins.false in
-    let some : c.find_end-e.result.from < c.find_end-e.result.to = omega (arith, c.find_end-e.ensures.ordered, c.if-end-past.false) in
-    let has = sym (ap (λ k. declares_code k (words (part bytes c.next_word-w.result.to c.find_end-e.result.from)) code) c.sorted-k.ensures) ∙ sym c.has_code.ensures ∙ c.if-has_code.true in
-    found_here bytes code c.loop-at.at g c.next_word-w.result next known c.find_end-e.result c.find_end-e.ensures some has
+    let some : c.find_end-end.result.from < c.find_end-end.result.to = omega (arith, c.find_end-end.ensures.ordered, eqb-false _ _ (sym c.is_empty.ensures ∙ c.if-is_empty.false)) in
+    let has = sym (ap (λ k. declares_code k (words (part bytes c.next_word-w.result.to c.find_end-end.result.from)) code) c.sorted-k.ensures) ∙ sym c.has_code.ensures ∙ c.if-has_code.true in
+    found_here bytes code c.loop-at.at g c.next_word-w.result next known c.find_end-end.result c.find_end-end.ensures some has
 
 pub returns-then-is_last : goal.returns-then-is_last
 returns-then-is_last c =
@@ -97,9 +98,9 @@ returns-then-is_last c =
     let g = c.loop-at.invariant in
     let next = next_is bytes c.loop-at.at c.next_word-w.result c.next_word-w.ensures g.inside in
     let known = sym (ap begins c.sorted-k.ensures) ∙ sym c.begins.ensures ∙ c.if-not-begins.false in
-    let some : c.find_end-e.result.from < c.find_end-e.result.to = omega (arith, c.find_end-e.ensures.ordered, c.if-end-past.false) in
-    let has = sym (ap (λ k. declares_code k (words (part bytes c.next_word-w.result.to c.find_end-e.result.from)) code) c.sorted-k.ensures) ∙ sym c.has_code.ensures ∙ c.if-has_code.false in
-    none_last bytes code c.loop-at.at g c.next_word-w.result next known c.find_end-e.result c.find_end-e.ensures some has (sym (ap is_last c.sorted-k.ensures) ∙ sym c.is_last.ensures ∙ c.if-is_last.true)
+    let some : c.find_end-end.result.from < c.find_end-end.result.to = omega (arith, c.find_end-end.ensures.ordered, eqb-false _ _ (sym c.is_empty.ensures ∙ c.if-is_empty.false)) in
+    let has = sym (ap (λ k. declares_code k (words (part bytes c.next_word-w.result.to c.find_end-end.result.from)) code) c.sorted-k.ensures) ∙ sym c.has_code.ensures ∙ c.if-has_code.false in
+    none_last bytes code c.loop-at.at g c.next_word-w.result next known c.find_end-end.result c.find_end-end.ensures some has (sym (ap is_last c.sorted-k.ensures) ∙ sym c.is_last.ensures ∙ c.if-is_last.true)
 
 pub loop-at-smaller : goal.loop-at-smaller
 loop-at-smaller c =
@@ -107,8 +108,8 @@ loop-at-smaller c =
     let code = c.args.code.now in
     let g = c.loop-at.invariant in
     let next = next_is bytes c.loop-at.at c.next_word-w.result c.next_word-w.ensures g.inside in
-    let some : c.find_end-e.result.from < c.find_end-e.result.to = omega (arith, c.find_end-e.ensures.ordered, c.if-end-past.false) in
-    omega (arith, next.ordered, next.behind, c.find_end-e.ensures.behind, c.find_end-e.ensures.inside, some)
+    let some : c.find_end-end.result.from < c.find_end-end.result.to = omega (arith, c.find_end-end.ensures.ordered, eqb-false _ _ (sym c.is_empty.ensures ∙ c.if-is_empty.false)) in
+    omega (arith, next.ordered, next.behind, c.find_end-end.ensures.behind, c.find_end-end.ensures.inside, some)
 
 pub loop-at-preserved : goal.loop-at-preserved
 loop-at-preserved c =
@@ -117,9 +118,9 @@ loop-at-preserved c =
     let g = c.loop-at.invariant in
     let next = next_is bytes c.loop-at.at c.next_word-w.result c.next_word-w.ensures g.inside in
     let known = sym (ap begins c.sorted-k.ensures) ∙ sym c.begins.ensures ∙ c.if-not-begins.false in
-    let some : c.find_end-e.result.from < c.find_end-e.result.to = omega (arith, c.find_end-e.ensures.ordered, c.if-end-past.false) in
-    let has = sym (ap (λ k. declares_code k (words (part bytes c.next_word-w.result.to c.find_end-e.result.from)) code) c.sorted-k.ensures) ∙ sym c.has_code.ensures ∙ c.if-has_code.false in
-    still_looking bytes code c.loop-at.at g c.next_word-w.result next known c.find_end-e.result c.find_end-e.ensures some has (sym (ap is_last c.sorted-k.ensures) ∙ sym c.is_last.ensures ∙ c.if-is_last.false)
+    let some : c.find_end-end.result.from < c.find_end-end.result.to = omega (arith, c.find_end-end.ensures.ordered, eqb-false _ _ (sym c.is_empty.ensures ∙ c.if-is_empty.false)) in
+    let has = sym (ap (λ k. declares_code k (words (part bytes c.next_word-w.result.to c.find_end-end.result.from)) code) c.sorted-k.ensures) ∙ sym c.has_code.ensures ∙ c.if-has_code.false in
+    still_looking bytes code c.loop-at.at g c.next_word-w.result next known c.find_end-end.result c.find_end-end.ensures some has (sym (ap is_last c.sorted-k.ensures) ∙ sym c.is_last.ensures ∙ c.if-is_last.false)
 
 pub returns : goal.returns
 returns c =

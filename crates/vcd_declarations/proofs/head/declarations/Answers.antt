@@ -2,6 +2,7 @@
 use mathlib.Core.Path.{sym, ap, ◌∙◌}
 use Prim.Native.Nat.{◌<◌}
 use native.Mathlib.Omega.{arith}
+use borrow.Author.Tests.{eqb-true, eqb-false}
 use Rattle.vcd_words.proofs.SpanLaws.{next_is}
 use Rattle.vcd_declarations.specs.Declarations.{begins, is_last}
 use Rattle.vcd_declarations.proofs.Going.{going_start, begins_none, half, last_one, one_more_lem, at_end}
@@ -40,24 +41,24 @@ returns-then-not-begins c =
     let known = sym (ap begins c.sorted-k.ensures) ∙ sym c.begins.ensures ∙ c.if-not-begins.true in
     begins_none bytes c.loop-at.head c.loop-at.at g c.next_word-w.result next known
 
-pub find_end-e-requires : goal.find_end-e-requires
-find_end-e-requires c =
+pub find_end-end-requires : goal.find_end-end-requires
+find_end-end-requires c =
     let bytes = c.args.bytes.now in
     let g = c.loop-at.invariant in
     let next = next_is bytes c.loop-at.at c.next_word-w.result c.next_word-w.ensures g.inside in
     record { at_in_bounds = next.inside; shut = record { no_solid = next.shuts } }
 
-pub returns-then-end-past : goal.returns-then-end-past
-returns-then-end-past c =
+pub returns-then-is_empty : goal.returns-then-is_empty
+returns-then-is_empty c =
     let bytes = c.args.bytes.now in
     let g = c.loop-at.invariant in
     let next = next_is bytes c.loop-at.at c.next_word-w.result c.next_word-w.ensures g.inside in
     let known = sym (ap begins c.sorted-k.ensures) ∙ sym c.begins.ensures ∙ c.if-not-begins.false in
-    half bytes c.loop-at.head c.loop-at.at g c.next_word-w.result next known c.find_end-e.result c.find_end-e.ensures c.if-end-past.true
+    half bytes c.loop-at.head c.loop-at.at g c.next_word-w.result next known c.find_end-end.result c.find_end-end.ensures (eqb-true _ _ (sym c.is_empty.ensures ∙ c.if-is_empty.true))
 
 pub declares-head-requires : goal.declares-head-requires
 declares-head-requires c =
-    let found = c.find_end-e.ensures in
+    let found = c.find_end-end.ensures in
     record { ordered = found.behind; inside = omega (arith, found.ordered, found.inside) }
 
 pub returns-then-is_last : goal.returns-then-is_last
@@ -66,8 +67,8 @@ returns-then-is_last c =
     let g = c.loop-at.invariant in
     let next = next_is bytes c.loop-at.at c.next_word-w.result c.next_word-w.ensures g.inside in
     let known = sym (ap begins c.sorted-k.ensures) ∙ sym c.begins.ensures ∙ c.if-not-begins.false in
-    let some : c.find_end-e.result.from < c.find_end-e.result.to = omega (arith, c.find_end-e.ensures.ordered, c.if-end-past.false) in
-    last_one bytes c.loop-at.head c.loop-at.at g c.next_word-w.result next known c.find_end-e.result c.find_end-e.ensures some c.declares-head.result
+    let some : c.find_end-end.result.from < c.find_end-end.result.to = omega (arith, c.find_end-end.ensures.ordered, eqb-false _ _ (sym c.is_empty.ensures ∙ c.if-is_empty.false)) in
+    last_one bytes c.loop-at.head c.loop-at.at g c.next_word-w.result next known c.find_end-end.result c.find_end-end.ensures some c.declares-head.result
     (rw (← c.sorted-k.ensures) (c.declares-head.ensures g.so_far g.tells))
     (sym (ap is_last c.sorted-k.ensures) ∙ sym c.is_last.ensures ∙ c.if-is_last.true)
 
@@ -76,8 +77,8 @@ loop-at-smaller c =
     let bytes = c.args.bytes.now in
     let g = c.loop-at.invariant in
     let next = next_is bytes c.loop-at.at c.next_word-w.result c.next_word-w.ensures g.inside in
-    let some : c.find_end-e.result.from < c.find_end-e.result.to = omega (arith, c.find_end-e.ensures.ordered, c.if-end-past.false) in
-    omega (arith, next.ordered, next.behind, c.find_end-e.ensures.behind, c.find_end-e.ensures.inside, some)
+    let some : c.find_end-end.result.from < c.find_end-end.result.to = omega (arith, c.find_end-end.ensures.ordered, eqb-false _ _ (sym c.is_empty.ensures ∙ c.if-is_empty.false)) in
+    omega (arith, next.ordered, next.behind, c.find_end-end.ensures.behind, c.find_end-end.ensures.inside, some)
 
 pub loop-at-preserved : goal.loop-at-preserved
 loop-at-preserved c =
@@ -85,8 +86,8 @@ loop-at-preserved c =
     let g = c.loop-at.invariant in
     let next = next_is bytes c.loop-at.at c.next_word-w.result c.next_word-w.ensures g.inside in
     let known = sym (ap begins c.sorted-k.ensures) ∙ sym c.begins.ensures ∙ c.if-not-begins.false in
-    let some : c.find_end-e.result.from < c.find_end-e.result.to = omega (arith, c.find_end-e.ensures.ordered, c.if-end-past.false) in
-    one_more_lem bytes c.loop-at.head c.loop-at.at g c.next_word-w.result next known c.find_end-e.result c.find_end-e.ensures some c.declares-head.result
+    let some : c.find_end-end.result.from < c.find_end-end.result.to = omega (arith, c.find_end-end.ensures.ordered, eqb-false _ _ (sym c.is_empty.ensures ∙ c.if-is_empty.false)) in
+    one_more_lem bytes c.loop-at.head c.loop-at.at g c.next_word-w.result next known c.find_end-end.result c.find_end-end.ensures some c.declares-head.result
     (rw (← c.sorted-k.ensures) (c.declares-head.ensures g.so_far g.tells))
     (sym (ap is_last c.sorted-k.ensures) ∙ sym c.is_last.ensures ∙ c.if-is_last.false)
 

@@ -1,125 +1,65 @@
--- `vcd_declarations::variable::varied` meets its contract: the words one by one.
+-- `vcd_declarations::variable::varied` meets its contract: four words, and what is said of them.
 use mathlib.Core.Path.{sym, ◌∙◌}
 use native.Mathlib.Omega.{arith}
+use borrow.Author.Tests.{eqb-false}
 use Rattle.vcd_words.proofs.SpanLaws.{next_is}
-use Rattle.vcd_declarations.proofs.VariableLaws.{none_varies, word_then, no_words, one_word, two_words, three_words, no_type, four_vary}
-use Rattle.vcd_declarations.proofs.VariableLaws.{none_varies, no_words, one_word, two_words, three_words, no_type, four_vary}
+use Rattle.vcd_declarations.proofs.VariableLaws.{none_varies, few_words, some_before, not_none, word_then, no_type, four_vary}
 use Rattle.vcd_declarations.proofs.variable.varied.Goals as goal
 
-pub returns-then-t0-t1 : goal.returns-then-t0-t1
-returns-then-t0-t1 c =
+pub sized-requires-clause-within : goal.sized-requires-clause-within
+sized-requires-clause-within c =
     let text = c.args.text.now in
-    let first = next_is text 0 c.next_word-t.result c.next_word-t.ensures (omega arith) in
-    none_varies text _ c.broken.ensures (no_words _ (first.none c.if-t0-t1.true))
+    let t = next_is text 0 c.next_word-t.result c.next_word-t.ensures (omega arith) in
+    let n = next_is text c.next_word-t.result.to c.next_word-n.result c.next_word-n.ensures t.inside in
+    let w = next_is text c.next_word-n.result.to c.next_word-c.result c.next_word-c.ensures n.inside in
+    record { ordered = w.ordered; inside = w.inside }
 
-pub returns-then-n0-n1 : goal.returns-then-n0-n1
-returns-then-n0-n1 c =
+pub sized-requires-clause-within_2 : goal.sized-requires-clause-within_2
+sized-requires-clause-within_2 c =
     let text = c.args.text.now in
-    let first = next_is text 0 c.next_word-t.result c.next_word-t.ensures (omega arith) in
-    let one = first.some (omega (arith, first.ordered, c.if-t0-t1.false)) in
-    let second = next_is text c.next_word-t.result.to c.next_word-n.result c.next_word-n.ensures first.inside in
-    none_varies text _ c.broken-then-n0-n1.ensures (one_word _ _ (word_then one (second.none c.if-n0-n1.true)))
-
-pub returns-then-c-c1 : goal.returns-then-c-c1
-returns-then-c-c1 c =
-    let text = c.args.text.now in
-    let first = next_is text 0 c.next_word-t.result c.next_word-t.ensures (omega arith) in
-    let one = first.some (omega (arith, first.ordered, c.if-t0-t1.false)) in
-    let second = next_is text c.next_word-t.result.to c.next_word-n.result c.next_word-n.ensures first.inside in
-    let two = second.some (omega (arith, second.ordered, c.if-n0-n1.false)) in
-    let third = next_is text c.next_word-n.result.to c.next_word-c.result c.next_word-c.ensures second.inside in
-    none_varies text _ c.broken-then-c-c1.ensures (two_words _ _ _ (word_then one (word_then two (third.none c.if-c-c1.true))))
-
-pub returns-then-r0-r1 : goal.returns-then-r0-r1
-returns-then-r0-r1 c =
-    let text = c.args.text.now in
-    let first = next_is text 0 c.next_word-t.result c.next_word-t.ensures (omega arith) in
-    let one = first.some (omega (arith, first.ordered, c.if-t0-t1.false)) in
-    let second = next_is text c.next_word-t.result.to c.next_word-n.result c.next_word-n.ensures first.inside in
-    let two = second.some (omega (arith, second.ordered, c.if-n0-n1.false)) in
-    let third = next_is text c.next_word-n.result.to c.next_word-c.result c.next_word-c.ensures second.inside in
-    let three = third.some (omega (arith, third.ordered, c.if-c-c1.false)) in
-    let fourth = next_is text c.next_word-c.result.to c.next_word-r.result c.next_word-r.ensures third.inside in
-    none_varies text _ c.broken-then-r0-r1.ensures (three_words _ _ _ _ (word_then one (word_then two (word_then three (fourth.none c.if-r0-r1.true)))))
-
-pub slice_bounds-is_var_type-count : goal.slice_bounds-is_var_type-count
-slice_bounds-is_var_type-count c =
-    let text = c.args.text.now in
-    let first = next_is text 0 c.next_word-t.result c.next_word-t.ensures (omega arith) in
-    first.ordered
-
-pub slice_bounds-is_var_type-start : goal.slice_bounds-is_var_type-start
-slice_bounds-is_var_type-start c =
-    let text = c.args.text.now in
-    let first = next_is text 0 c.next_word-t.result c.next_word-t.ensures (omega arith) in
-    first.ordered
-
-pub slice_bounds-is_var_type-end : goal.slice_bounds-is_var_type-end
-slice_bounds-is_var_type-end c =
-    let text = c.args.text.now in
-    let first = next_is text 0 c.next_word-t.result c.next_word-t.ensures (omega arith) in
-    first.inside
-
-pub slice_bounds-size-count : goal.slice_bounds-size-count
-slice_bounds-size-count c =
-    let text = c.args.text.now in
-    let first = next_is text 0 c.next_word-t.result c.next_word-t.ensures (omega arith) in
-    let one = first.some (omega (arith, first.ordered, c.if-t0-t1.false)) in
-    let second = next_is text c.next_word-t.result.to c.next_word-n.result c.next_word-n.ensures first.inside in
-    second.ordered
-
-pub slice_bounds-size-start : goal.slice_bounds-size-start
-slice_bounds-size-start c =
-    let text = c.args.text.now in
-    let first = next_is text 0 c.next_word-t.result c.next_word-t.ensures (omega arith) in
-    let one = first.some (omega (arith, first.ordered, c.if-t0-t1.false)) in
-    let second = next_is text c.next_word-t.result.to c.next_word-n.result c.next_word-n.ensures first.inside in
-    second.ordered
-
-pub slice_bounds-size-end : goal.slice_bounds-size-end
-slice_bounds-size-end c =
-    let text = c.args.text.now in
-    let first = next_is text 0 c.next_word-t.result c.next_word-t.ensures (omega arith) in
-    let one = first.some (omega (arith, first.ordered, c.if-t0-t1.false)) in
-    let second = next_is text c.next_word-t.result.to c.next_word-n.result c.next_word-n.ensures first.inside in
-    second.inside
-
-pub sized-requires : goal.sized-requires
-sized-requires c =
-    let text = c.args.text.now in
-    let first = next_is text 0 c.next_word-t.result c.next_word-t.ensures (omega arith) in
-    let one = first.some (omega (arith, first.ordered, c.if-t0-t1.false)) in
-    let second = next_is text c.next_word-t.result.to c.next_word-n.result c.next_word-n.ensures first.inside in
-    let two = second.some (omega (arith, second.ordered, c.if-n0-n1.false)) in
-    let third = next_is text c.next_word-n.result.to c.next_word-c.result c.next_word-c.ensures second.inside in
-    let three = third.some (omega (arith, third.ordered, c.if-c-c1.false)) in
-    let fourth = next_is text c.next_word-c.result.to c.next_word-r.result c.next_word-r.ensures third.inside in
-    record { within = record { ordered = third.ordered; inside = third.inside }; within_2 = record { ordered = fourth.ordered; inside = fourth.inside } }
-
-pub returns-then-is_var_type : goal.returns-then-is_var_type
-returns-then-is_var_type c =
-    let text = c.args.text.now in
-    let first = next_is text 0 c.next_word-t.result c.next_word-t.ensures (omega arith) in
-    let one = first.some (omega (arith, first.ordered, c.if-t0-t1.false)) in
-    let second = next_is text c.next_word-t.result.to c.next_word-n.result c.next_word-n.ensures first.inside in
-    let two = second.some (omega (arith, second.ordered, c.if-n0-n1.false)) in
-    let third = next_is text c.next_word-n.result.to c.next_word-c.result c.next_word-c.ensures second.inside in
-    let three = third.some (omega (arith, third.ordered, c.if-c-c1.false)) in
-    let fourth = next_is text c.next_word-c.result.to c.next_word-r.result c.next_word-r.ensures third.inside in
-    let four = fourth.some (omega (arith, fourth.ordered, c.if-r0-r1.false)) in
-    four_vary text _ _ c.size.result c.next_word-c.result _ _ _ c.size.ensures (word_then one (word_then two (word_then three four))) (sym c.is_var_type.ensures ∙ c.if-is_var_type.true)
-    (record { ordered = third.ordered; inside = third.inside }) (omega (arith, third.ordered, c.if-c-c1.false))
-    c.sized.ensures
+    let t = next_is text 0 c.next_word-t.result c.next_word-t.ensures (omega arith) in
+    let n = next_is text c.next_word-t.result.to c.next_word-n.result c.next_word-n.ensures t.inside in
+    let w = next_is text c.next_word-n.result.to c.next_word-c.result c.next_word-c.ensures n.inside in
+    let r = next_is text c.next_word-c.result.to c.next_word-r.result c.next_word-r.ensures w.inside in
+    record { ordered = r.ordered; inside = r.inside }
 
 pub returns : goal.returns
 returns c =
     let text = c.args.text.now in
-    let first = next_is text 0 c.next_word-t.result c.next_word-t.ensures (omega arith) in
-    let one = first.some (omega (arith, first.ordered, c.if-t0-t1.false)) in
-    let second = next_is text c.next_word-t.result.to c.next_word-n.result c.next_word-n.ensures first.inside in
-    let two = second.some (omega (arith, second.ordered, c.if-n0-n1.false)) in
-    let third = next_is text c.next_word-n.result.to c.next_word-c.result c.next_word-c.ensures second.inside in
-    let three = third.some (omega (arith, third.ordered, c.if-c-c1.false)) in
-    let fourth = next_is text c.next_word-c.result.to c.next_word-r.result c.next_word-r.ensures third.inside in
-    let four = fourth.some (omega (arith, fourth.ordered, c.if-r0-r1.false)) in
-    none_varies text _ c.broken-2.ensures (no_type _ _ _ _ _ _ (word_then one (word_then two (word_then three four))) (sym c.is_var_type.ensures ∙ c.if-is_var_type.false))
+    let t = next_is text 0 c.next_word-t.result c.next_word-t.ensures (omega arith) in
+    let n = next_is text c.next_word-t.result.to c.next_word-n.result c.next_word-n.ensures t.inside in
+    let w = next_is text c.next_word-n.result.to c.next_word-c.result c.next_word-c.ensures n.inside in
+    let r = next_is text c.next_word-c.result.to c.next_word-r.result c.next_word-r.ensures w.inside in
+    let apart = eqb-false _ _ (sym c.is_empty.ensures ∙ c.if-is_empty.false) in
+    let four = r.some (omega (arith, r.ordered, apart)) in
+    let third = some_before text _ _ w (not_none four) in
+    let three = w.some third in
+    let two = n.some (some_before text _ _ n (not_none three)) in
+    let one = t.some (some_before text _ _ t (not_none two)) in
+    four_vary text _ _ c.size.result c.next_word-c.result _ _ c.size.ensures (word_then one (word_then two (word_then three four)))
+    (sym c.is_var_type.ensures ∙ c.if-not-is_var_type.false)
+    (record { ordered = w.ordered; inside = w.inside }) third c.sized.result c.sized.ensures
+
+pub returns-then-is_empty : goal.returns-then-is_empty
+returns-then-is_empty c =
+    let text = c.args.text.now in
+    let t = next_is text 0 c.next_word-t.result c.next_word-t.ensures (omega arith) in
+    let n = next_is text c.next_word-t.result.to c.next_word-n.result c.next_word-n.ensures t.inside in
+    let w = next_is text c.next_word-n.result.to c.next_word-c.result c.next_word-c.ensures n.inside in
+    let r = next_is text c.next_word-c.result.to c.next_word-r.result c.next_word-r.ensures w.inside in
+    none_varies text (few_words text _ _ _ _ t n w r (sym c.is_empty.ensures ∙ c.if-is_empty.true))
+
+pub returns-then-not-is_var_type : goal.returns-then-not-is_var_type
+returns-then-not-is_var_type c =
+    let text = c.args.text.now in
+    let t = next_is text 0 c.next_word-t.result c.next_word-t.ensures (omega arith) in
+    let n = next_is text c.next_word-t.result.to c.next_word-n.result c.next_word-n.ensures t.inside in
+    let w = next_is text c.next_word-n.result.to c.next_word-c.result c.next_word-c.ensures n.inside in
+    let r = next_is text c.next_word-c.result.to c.next_word-r.result c.next_word-r.ensures w.inside in
+    let apart = eqb-false _ _ (sym c.is_empty.ensures ∙ c.if-is_empty.false) in
+    let four = r.some (omega (arith, r.ordered, apart)) in
+    let third = some_before text _ _ w (not_none four) in
+    let three = w.some third in
+    let two = n.some (some_before text _ _ n (not_none three)) in
+    let one = t.some (some_before text _ _ t (not_none two)) in
+    none_varies text (no_type _ _ _ _ _ _ (word_then one (word_then two (word_then three four))) (sym c.is_var_type.ensures ∙ c.if-not-is_var_type.true))

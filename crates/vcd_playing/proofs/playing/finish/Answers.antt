@@ -2,7 +2,6 @@
 use Rattle.vcd_playing.specs.Making.{finished}
 use Rattle.vcd_playing.proofs.playing.finish.Goals as goal
 
-pub returns : goal.returns
+pub returns-clause-turns : goal.returns-clause-turns
 unfolding finished
-returns c =
-    c.step-s.ensures.done.0
+returns-clause-turns c = c.step.ensures.done.0

@@ -1,20 +1,22 @@
 -- `vcd_playing::playing::play` meets its contract: the tests in turn, and then the dump.
-use Rattle.controller.specs.World.{buffers}
-use Rattle.vcd_playing.proofs.MakingLaws.{eight, eleven, twelve, fine}
+use mathlib.Core.Path.{sym, ◌∙◌}
+use Rattle.base.proofs.RefusalWords.{handed_on}
+use Rattle.controller.specs.Lent.{held}
+use Rattle.vcd_playing.proofs.MakingLaws.{eight, faulty, fine, word_of, no_word}
 use Rattle.vcd_playing.proofs.playing.play.Goals as goal
 
-pub returns-then-config-ne-CONFIG_BYTES : goal.returns-then-config-ne-CONFIG_BYTES
-returns-then-config-ne-CONFIG_BYTES c =
-    eight c.args.config.now c.args.dump.now (buffers c.args.old.now c.args.new.now c.args.states.now c.args.picture.now c.args.rows.now) c.turned.result c.turned.ensures c.if-config-ne-CONFIG_BYTES.true
+pub returns-then-config-ne-CONFIG_BYTES-clause-makes : goal.returns-then-config-ne-CONFIG_BYTES-clause-makes
+returns-then-config-ne-CONFIG_BYTES-clause-makes c =
+    eight c.args.config.now c.args.dump.now (held c.args.lent.now) c.if-config-ne-CONFIG_BYTES.true
 
-pub returns-in-Malformed : goal.returns-in-Malformed
-returns-in-Malformed c =
-    eleven c.args.config.now c.args.dump.now (buffers c.args.old.now c.args.new.now c.args.states.now c.args.picture.now c.args.rows.now) c.if-config-ne-CONFIG_BYTES.false c.judge-judged.result c.judge-judged.ensures c.turned-in-Malformed.result c.turned-in-Malformed.ensures c.in-Malformed.is
+pub returns-in_err-map_err-clause-makes : goal.returns-in_err-map_err-clause-makes
+returns-in_err-map_err-clause-makes c =
+    let a = c.args in
+    let p = word_of c.judge.result c.in_err-map_err.ensures.variant c.in_err-map_err.ensures.cases in
+    rw (handed_on _ _ c.from_residual.ensures.1, p.2)
+    (faulty a.config.now a.dump.now (held a.lent.now) c.if-config-ne-CONFIG_BYTES.false p.0 (sym c.judge.ensures ∙ p.1))
 
-pub returns-in-Unsignalled : goal.returns-in-Unsignalled
-returns-in-Unsignalled c =
-    twelve c.args.config.now c.args.dump.now (buffers c.args.old.now c.args.new.now c.args.states.now c.args.picture.now c.args.rows.now) c.if-config-ne-CONFIG_BYTES.false c.judge-judged.result c.judge-judged.ensures c.turned-in-Unsignalled.result c.turned-in-Unsignalled.ensures c.in-Unsignalled.is
-
-pub returns-in-Fine : goal.returns-in-Fine
-returns-in-Fine c =
-    fine c.args.config.now c.args.dump.now (buffers c.args.old.now c.args.new.now c.args.states.now c.args.picture.now c.args.rows.now) c.if-config-ne-CONFIG_BYTES.false c.judge-judged.result c.judge-judged.ensures _ c.play_fine.result.refused c.in-Fine.is c.play_fine.ensures
+pub returns-clause-makes : goal.returns-clause-makes
+returns-clause-makes c =
+    let a = c.args in
+    fine a.config.now a.dump.now (held a.lent.now) c.if-config-ne-CONFIG_BYTES.false (sym c.judge.ensures ∙ no_word c.judge.result c.in_ok-map_err.ensures.variant) c.play_fine.ensures.makes

@@ -1,34 +1,17 @@
 -- `vcd_playing::playing::play_fine` meets its contract: the making, and then the calls.
-use mathlib.Core.Path.{◌∙◌}
-use Rattle.base.proofs.RefusalWords.{told}
-use Rattle.controller.specs.World.{buffers}
+use Rattle.base.proofs.RefusalWords.{taken, turned, handed_on}
+use Rattle.controller.specs.Lent.{held}
 use Rattle.vcd_playing.proofs.MakingLaws.{fine_yes, fine_no}
 use Rattle.vcd_playing.proofs.playing.play_fine.Goals as goal
 
-pub shape_of-old-then-none : goal.shape_of-old-then-none
-shape_of-old-then-none c =
-    c.play_events-last.auto.old ∙ c.make-made.auto.old
+pub returns-in_err-chip-clause-makes : goal.returns-in_err-chip-clause-makes
+returns-in_err-chip-clause-makes c =
+    let a = c.args in
+    let m = c.in_err-chip.ensures.makes in
+    rw (handed_on _ _ c.from_residual.ensures.1) (fine_no a.config.now a.dump.now (held a.lent.now) m (turned _ m.1))
 
-pub shape_of-new-then-none : goal.shape_of-new-then-none
-shape_of-new-then-none c =
-    c.play_events-last.auto.new ∙ c.make-made.auto.new
-
-pub shape_of-states-then-none : goal.shape_of-states-then-none
-shape_of-states-then-none c =
-    c.play_events-last.auto.states ∙ c.make-made.auto.states
-
-pub shape_of-picture-then-none : goal.shape_of-picture-then-none
-shape_of-picture-then-none c =
-    c.play_events-last.auto.picture ∙ c.make-made.auto.picture
-
-pub shape_of-rows-then-none : goal.shape_of-rows-then-none
-shape_of-rows-then-none c =
-    c.play_events-last.auto.rows ∙ c.make-made.auto.rows
-
-pub returns-then-none : goal.returns-then-none
-returns-then-none c =
-    fine_yes c.args.config.now c.args.dump.now (buffers c.args.old.now c.args.new.now c.args.states.now c.args.picture.now c.args.rows.now) _ c.make-made.result.refused _ c.make-made.ensures (told c.none.ensures c.make-made.ensures.1 c.if-none.true) c.play_events-last.ensures
-
-pub returns : goal.returns
-returns c =
-    fine_no c.args.config.now c.args.dump.now (buffers c.args.old.now c.args.new.now c.args.states.now c.args.picture.now c.args.rows.now) _ c.make-made.result.refused c.make-made.ensures (told c.none.ensures c.make-made.ensures.1 c.if-none.false)
+pub returns-clause-makes : goal.returns-clause-makes
+returns-clause-makes c =
+    let a = c.args in
+    let m = c.in_ok-chip.ensures.makes in
+    fine_yes a.config.now a.dump.now (held a.lent.now) _ m (taken m.1) c.play_events.ensures.turns

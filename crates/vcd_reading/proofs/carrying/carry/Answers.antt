@@ -1,27 +1,19 @@
 -- `vcd_reading::carrying::carry` meets its contract: the next word is the open one.
-use native.Mathlib.Omega.{arith}
 use Rattle.vcd_words.proofs.SpanLaws.{next_is}
 use Rattle.vcd_reading.proofs.CarryLaws.{open_part, carries_as}
 use Rattle.vcd_reading.proofs.carrying.carry.Goals as goal
 
 pub slice_bounds-extend-count : goal.slice_bounds-extend-count
 slice_bounds-extend-count c =
-    let next = next_is c.args.bytes.now c.args.at c.next_word-s.result c.next_word-s.ensures c.requires.at_in_bounds in
-    next.ordered
+    (next_is c.args.bytes.now c.args.at c.next_word-s.result c.next_word-s.ensures c.requires.at_in_bounds).ordered
 
 pub slice_bounds-extend-start : goal.slice_bounds-extend-start
 slice_bounds-extend-start c =
-    let next = next_is c.args.bytes.now c.args.at c.next_word-s.result c.next_word-s.ensures c.requires.at_in_bounds in
-    next.ordered
+    (next_is c.args.bytes.now c.args.at c.next_word-s.result c.next_word-s.ensures c.requires.at_in_bounds).ordered
 
 pub slice_bounds-extend-end : goal.slice_bounds-extend-end
 slice_bounds-extend-end c =
-    let next = next_is c.args.bytes.now c.args.at c.next_word-s.result c.next_word-s.ensures c.requires.at_in_bounds in
-    next.inside
-
-pub extend-requires : goal.extend-requires
-extend-requires c =
-    omega arith
+    (next_is c.args.bytes.now c.args.at c.next_word-s.result c.next_word-s.ensures c.requires.at_in_bounds).inside
 
 pub returns : goal.returns
 returns c =

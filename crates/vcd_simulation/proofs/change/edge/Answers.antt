@@ -12,5 +12,5 @@ pub returns : goal.returns
 returns c =
     let a = c.args in (
       c.reset-bus.ensures,
-      held_as c.emit-more.ensures (edge_made a.time a.v a.b _ c.if-b-v.false c.reset_value.ensures),
+      held_as c.emit-held.ensures (edge_made a.time a.v a.b _ c.if-b-v.false c.reset_value.ensures),
     )

@@ -1,28 +1,33 @@
 -- `vcd_simulation::word::plan_of` meets its contract: by what may come next.
-use mathlib.Core.Path.{refl, sym, ◌∙◌}
-use Rattle.vcd_simulation.proofs.StepLaws.{is_marked_lem, plans_marked, plans_end, plans_value}
+use mathlib.Core.Path.{refl, sym}
+use native.Mathlib.Omega.{arith}
+use Rattle.vcd_simulation.specs.Simulation.{breaks, text_word}
+use Rattle.vcd_simulation.proofs.StepLaws.{text_quiet, done_by_lem, plans_to, plans_as}
 use Rattle.vcd_simulation.proofs.word.plan_of.Goals as goal
 
-pub other_plan-requires : goal.other_plan-requires
-other_plan-requires c =
-    sym c.place_of-place.ensures ∙ c.if-place-eq-NOWHERE.true
+pub returns-in-Command : goal.returns-in-Command
+returns-in-Command c =
+    let a = c.args in plans_as _ _ _ _ _ c.command_plan.ensures (λ codes. sym (done_by_lem codes a.word.now a.b _ c.in-Command.is))
 
-pub returns-then-place-eq-NOWHERE : goal.returns-then-place-eq-NOWHERE
-returns-then-place-eq-NOWHERE c =
-    c.other_plan.ensures
+pub returns-in-Section : goal.returns-in-Section
+returns-in-Section c =
+    let a = c.args in plans_as _ _ _ _ _ c.section_plan.ensures (λ codes. sym (done_by_lem codes a.word.now a.b _ c.in-Section.is))
 
-pub returns-then-ends_section : goal.returns-then-ends_section
-returns-then-ends_section c =
-    plans_end c.args.word.now c.args.b c.place_of-place.result c.place_of-place.ensures c.only.result c.goes.result c.only.ensures c.goes.ensures (sym c.ends_section.ensures ∙ c.if-ends_section.true)
+pub returns-in-Text : goal.returns-in-Text
+returns-in-Text c =
+    let a = c.args in
+    plans_to a.word.now a.b _ (text_word a.word.now a.b) _ c.text_word.ensures (text_quiet a.word.now a.b)
+    (λ codes. sym (done_by_lem codes a.word.now a.b _ c.in-Text.is))
 
-pub marked-requires : goal.marked-requires
-marked-requires c =
-    is_marked_lem c.args.word.now c.args.b c.place_of-place.result c.place_of-place.ensures (sym c.begins_command.ensures ∙ c.if-begins_command.true)
+pub returns-in-Code : goal.returns-in-Code
+returns-in-Code c =
+    let a = c.args in record { comes = λ codes. done_by_lem codes a.word.now a.b _ c.in-Code.is; inside = omega arith }
 
-pub returns-then-begins_command : goal.returns-then-begins_command
-returns-then-begins_command c =
-    plans_marked c.args.word.now c.args.b c.place_of-place.result c.place_of-place.ensures c.only-then-begins_command.result c.marked.result c.only-then-begins_command.ensures c.marked.ensures (sym c.begins_command.ensures ∙ c.if-begins_command.true)
+pub returns-in-SectionCode : goal.returns-in-SectionCode
+returns-in-SectionCode c =
+    let a = c.args in record { comes = λ codes. done_by_lem codes a.word.now a.b _ c.in-SectionCode.is; inside = omega arith }
 
-pub returns : goal.returns
-returns c =
-    plans_value c.args.word.now c.args.b c.place_of-place.result c.place_of-place.ensures c.value_plan.result _ c.if-place-eq-NOWHERE.false refl (sym c.ends_section.ensures ∙ c.if-ends_section.false) (sym c.begins_command.ensures ∙ c.if-begins_command.false) c.value_plan.ensures
+pub returns-in-Broken : goal.returns-in-Broken
+returns-in-Broken c =
+    let a = c.args in
+    plans_to a.word.now a.b _ (breaks a.b) _ c.breaks.ensures refl (λ codes. sym (done_by_lem codes a.word.now a.b _ c.in-Broken.is))

@@ -1,12 +1,8 @@
--- `vcd_values::names::bracket` meets its contract. The invariant: the last [ is that of the first i bytes. The measure is i.
+-- `vcd_values::names::bracket` meets its contract. The invariant: from the next byte on, behind the last [ so far, it is the same.
 use mathlib.Core.Path.{◌≡◌}
-use Prim.Native.Nat.{◌≤◌}
-use lib.ListN.{length, take}
+use lib.ListN.{drop}
 use Rattle.vcd_values.specs.Names.{bracket_from, bracket}
 use Rattle.vcd_values.proofs.names.bracket.Given as goal
 
 abbrev pub invariant-loop-i : goal.invariant-loop-i
-invariant-loop-i l = (bracket l.word ≡ bracket_from 0 (length l.word) (take l.i l.word)) × (l.i ≤ length l.word)
-
-abbrev pub decreases-loop-i : goal.decreases-loop-i
-decreases-loop-i l = l.i
+invariant-loop-i l = bracket l.word ≡ bracket_from l.i l.last (drop l.i l.word)

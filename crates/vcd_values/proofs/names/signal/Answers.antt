@@ -1,30 +1,25 @@
 -- `vcd_values::names::signal` meets its contract: no word follows, a select does, or something else.
-use mathlib.Core.Path.{sym, ap, ◌∙◌}
+use mathlib.Core.Path.{refl, sym, ap, ◌∙◌}
+use Rattle.vcd_values.specs.declared.selects.State.TheVariants.{Before, Closed}
 use Rattle.vcd_values.specs.Names.{signal_of}
+use Rattle.vcd_values.proofs.SelectLaws.{before_not, closed_not}
 use Rattle.vcd_values.proofs.NameLaws.{name_alone, name_selected, name_none, signal_none}
 use Rattle.vcd_values.proofs.names.signal.Goals as goal
 
-pub returns-then-is_before : goal.returns-then-is_before
-returns-then-is_before c =
-    let state = c.before.before.before in
-    let a = state.args in
-    let before = sym c.is_before.ensures ∙ c.if-is_before.true in
-    c.alone.ensures ∙ ap signal_of (sym (name_alone a.word.now a.after.now _ state.read-state.ensures before))
+pub returns-in-Before : goal.returns-in-Before
+returns-in-Before c =
+    let a = c.args in
+    c.alone.ensures ∙ ap signal_of (sym (name_alone a.word.now a.after.now Before (sym c.in-Before.is ∙ c.read.ensures) refl))
 
-pub returns-then-is_closed : goal.returns-then-is_closed
-returns-then-is_closed c =
-    let first = c.before.before.before in
-    let state = first.before.before in
-    let a = state.args in
-    let begun = sym first.is_before.ensures ∙ first.if-is_before.false in
-    let closed = sym c.is_closed.ensures ∙ c.if-is_closed.true in
-    c.selected.ensures ∙ ap signal_of (sym (name_selected a.word.now a.after.now _ state.read-state.ensures begun closed))
+pub returns-in-Closed : goal.returns-in-Closed
+returns-in-Closed c =
+    let a = c.args in
+    c.selected.ensures ∙ ap signal_of (sym (name_selected a.word.now a.after.now Closed (sym c.in-Closed.is ∙ c.read.ensures) refl refl))
 
-pub returns : goal.returns
-returns c =
-    let first = c.before.before in
-    let state = first.before.before in
-    let a = state.args in
-    let begun = sym first.is_before.ensures ∙ first.if-is_before.false in
-    let unclosed = sym c.is_closed.ensures ∙ c.if-is_closed.false in
-    sym (ap signal_of (name_none a.word.now a.after.now _ state.read-state.ensures begun unclosed) ∙ signal_none)
+pub returns-in_default : goal.returns-in_default
+returns-in_default c =
+    let a = c.args in
+    let s = c.read.result in
+    let begun = before_not s c.in_default.not-Before in
+    let unclosed = closed_not s c.in_default.not-Closed in
+    sym (ap signal_of (name_none a.word.now a.after.now s c.read.ensures begun unclosed) ∙ signal_none)

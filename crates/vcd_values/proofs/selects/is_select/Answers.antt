@@ -1,26 +1,17 @@
--- `vcd_values::selects::is_select` meets its contract. The invariant: a select is what the state wants from place i on.
--- The measure is what is left of the word.
-use mathlib.Core.Path.{refl, sym, ap, ◌∙◌}
-use Prim.Native.Nat.{◌+◌}
-use lib.ListN.{drop}
-use Rattle.vcd_values.specs.declared.selects.State.{State}
-use Rattle.vcd_values.proofs.SelectLaws.{left, left_byte, left_end}
+-- `vcd_values::selects::is_select` meets its contract.
+use mathlib.Core.Path.{sym, ap, ◌∙◌}
+use Rattle.vcd_values.specs.Selects.{is_closed}
+use Rattle.vcd_values.proofs.SelectLaws.{select_run, run_over, closed_not}
 use Rattle.vcd_values.proofs.selects.is_select.Goals as goal
 
-pub loop-i-init : goal.loop-i-init
-loop-i-init c = refl
-
-pub loop-i-preserved : goal.loop-i-preserved
-loop-i-preserved c =
-    let test = c.before.before in
-    let l = test.loop-i in
-    let w = test.args.word.now in
-    l.invariant
-    ∙ left_byte l.state w l.i test.loop-i-test.true
-    ∙ ap (λ (s : State). left s (drop (l.i + 1) w)) (sym c.next-state.ensures)
-
-pub returns : goal.returns
-returns c =
-    let l = c.loop-i in
+pub returns-in-Closed : goal.returns-in-Closed
+returns-in-Closed c =
+    let l = c.loop-b in
     let w = c.args.word.now in
-    c.is_closed.ensures ∙ sym (l.invariant ∙ left_end l.state w l.i c.loop-i-test.false)
+    sym (select_run w ∙ ap is_closed (l.invariant ∙ run_over l.state w l.b-index c.loop-b-test.false ∙ c.in-Closed.is))
+
+pub returns-in_default : goal.returns-in_default
+returns-in_default c =
+    let l = c.loop-b in
+    let w = c.args.word.now in
+    sym (select_run w ∙ ap is_closed (l.invariant ∙ run_over l.state w l.b-index c.loop-b-test.false) ∙ closed_not l.state c.in_default.not-Closed)

@@ -1,5 +1,4 @@
 -- `waveform::Place::after` meets its contract: fewer frames of the phase are to come, and then the phases without any are passed.
-use borrow.Author.Rules.{rules}
 use mathlib.Core.Path.{◌≡◌, sym, ap, subst, ◌∙◌}
 use mathlib.Core.List.{List}
 use Prim.Native.Nat.{ℕ, min}

@@ -1,6 +1,7 @@
 -- `waveform::Place::at` meets its contract: a group that runs is the table's of that number.
 use borrow.Author.Rules.{rules}
-use mathlib.Core.Path.{◌≡◌, sym, ◌∙◌, ap}
+use mathlib.Core.Path.{◌≡◌, sym}
+use mathlib.Core.List.{List}
 use Prim.Native.Nat.{ℕ, ◌<◌}
 use native.Mathlib.Omega.{arith}
 use lib.ListN.{length, get_or}
@@ -8,23 +9,21 @@ use Rattle.waveform.specs.declared.Group.{Group}
 use Rattle.waveform.specs.Frames.{blank}
 use Rattle.waveform.specs.InnerPlaces.{group_at}
 use Rattle.waveform.proofs.TableLaws.{unread, running_few, running_get}
-use Rattle.waveform.proofs.Place.at.Goals.{Start}
+use Rattle.waveform.specs.Tables.{running}
 use Rattle.waveform.proofs.Place.at.Goals as goal
 
-few : (c : Start) → c.args.group < 7
-few c =
-    let seven : length c.args.table ≡ 7 = search rules in
-    omega (arith, c.requires.0, running_few c.args.table)
+few : (t : List Group) (k : ℕ) → length t ≡ 7 → k < length (running t) → k < 7
+few t k e h = omega (arith, running_few t)
 
 pub offset_bounds-table-group : goal.offset_bounds-table-group
-offset_bounds-table-group c = record { fits = omega (arith, few c) }
+offset_bounds-table-group c = record { fits = omega (arith, few c.args.table c.args.group (search rules) c.requires.0) }
 
 pub bounds-table-group : goal.bounds-table-group
-bounds-table-group c = few c
+bounds-table-group c = few c.args.table c.args.group (search rules) c.requires.0
 
 pub returns : goal.returns
 returns c =
-    let s = c.before.before.before.before in
+    let s = c in
     let same : get_or s.args.table s.args.group unread ≡ group_at s.args.table s.args.group =
     sym (running_get s.args.table blank unread s.args.group s.requires.0) in
     λ i. record {
@@ -32,5 +31,5 @@ returns c =
       rounds = s.args.rounds;
       phase = s.args.phase;
       code = get_or (same i).codes s.args.phase 0;
-      left = (c.wide-left.ensures.0 ∙ ap (λ (g : Group). get_or g.frames s.args.phase 0) same) i;
+      left = get_or (same i).frames s.args.phase 0;
     }

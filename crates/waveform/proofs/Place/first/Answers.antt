@@ -1,9 +1,7 @@
 -- `waveform::Place::first` meets its contract: from the first group's start all codes are to come.
-use borrow.Author.Rules.{rules}
 use mathlib.Core.Path.{sym, subst, ap, ◌∙◌}
 use mathlib.Core.List.{List}
 use Prim.Native.Nat.{ℕ}
-use Rattle.waveform.specs.declared.Place.{Place}
 use Rattle.waveform.specs.InnerPlaces.{codes_from, Placed, Stands}
 use Rattle.waveform.proofs.PlaceLaws.{all_codes, start_placed}
 use Rattle.waveform.proofs.Place.first.Goals as goal

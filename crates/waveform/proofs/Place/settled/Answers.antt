@@ -1,14 +1,13 @@
 -- `waveform::Place::settled` meets its contract. The loop's invariant: the codes to come are still those; the measure: the phases to come.
-use borrow.Author.Rules.{rules}
-use mathlib.Core.Path.{◌≡◌, refl, sym, subst, ap, ◌∙◌}
-use mathlib.Core.List.{List, ◌++◌}
+use mathlib.Core.Path.{◌≡◌, refl, sym, ap, ◌∙◌}
+use mathlib.Core.List.{◌++◌}
 use Prim.Native.Nat.{ℕ, ◌<◌}
 use native.Mathlib.Omega.{arith}
 use lib.ListN.{length, replicate}
 use Rattle.waveform.specs.declared.Place.{Place}
 use Rattle.waveform.specs.Tables.{running}
-use Rattle.waveform.specs.InnerPlaces.{codes_after, codes_from, Placed, Stands}
-use Rattle.waveform.proofs.PlaceLaws.{phases_left, next_codes, next_placed, next_less}
+use Rattle.waveform.specs.InnerPlaces.{codes_after, codes_from}
+use Rattle.waveform.proofs.PlaceLaws.{next_codes, next_placed, next_less}
 use Rattle.waveform.proofs.Place.settled.Goals.{After-next-p, Start}
 use Rattle.waveform.proofs.Place.settled.Goals as goal
 

@@ -1,15 +1,14 @@
 -- `waveform::Waveform::transfer` meets its contract: the first frames, as many as the table has, are all.
-use mathlib.Core.Path.{◌≡◌, subst, ap, ◌∙◌}
-use mathlib.Core.List.{List, []}
-use Prim.Native.Nat.{◌-◌, ◌≤◌}
+use mathlib.Core.Path.{◌≡◌, subst}
+use mathlib.Core.List.{List}
+use Prim.Native.Nat.{◌≤◌}
 use native.Mathlib.Omega.{arith}
-use lib.ListN.{length, get_or}
+use lib.ListN.{length}
 use lib.Seq.{take_all}
 use lib.IntN.{ℤ}
 use Rattle.base.proofs.Lists.{length_mapped}
 use Rattle.glass.specs.Transfer.{Acts}
 use Rattle.glass.proofs.TransferLaws.{acts_identity}
-use Rattle.waveform.specs.declared.Group.{Group}
 use Rattle.waveform.specs.Tables.{table_at, table_frame_count}
 use Rattle.waveform.specs.Frames.{frames_of}
 use Rattle.waveform.proofs.FramesLaws.{frames_none, frames_counted}
@@ -28,8 +27,7 @@ returns c =
     let s = c.args in
     let ds = frames_of s.self s.positive_drives_black s.lut in
     let all : c.table_frames-n.result ≡ table_frame_count (table_at s.self s.lut) =
-    c.table_frames-n.ensures.0
-    ∙ ap (λ (t : List (List Group)). table_frame_count (get_or t s.lut [])) c.tables-tables.ensures in
+    c.table_frames-n.ensures.0 in
     let most : length ds ≤ c.table_frames-n.result =
     omega (arith, all, frames_counted s.self s.positive_drives_black s.lut) in
     subst (λ (l : List ℤ). Acts s.swing c.transfer_first.result l) (take_all c.table_frames-n.result ds most)

@@ -1,8 +1,8 @@
 -- `waveform::Waveform::transfer_first` meets its contract, by the rule: a number that no table has gives no frame.
-use mathlib.Core.Path.{◌≡◌, sym, subst}
+use mathlib.Core.Path.{◌≡◌, refl, sym, subst}
 use mathlib.Core.Bool.{Bool, true, false}
 use mathlib.Core.List.{List, []}
-use Prim.Native.Nat.{ℕ, ◌-◌}
+use Prim.Native.Nat.{ℕ}
 use native.Mathlib.Omega.{arith}
 use lib.ListN.{length, take, get_or}
 use lib.Seq.{take-nil}
@@ -45,11 +45,9 @@ module _ (w : Waveform) (black : Bool) (lut n swing : ℕ) (r : Transfer) where
 pub returns-then-self : goal.returns-then-self
 returns-then-self c =
     let s = c.args in
-    by-rule s.self s.positive_drives_black s.lut s.n s.swing _ true _ c.if-self.true
-    c.tables-tables.ensures c.drive_beside.ensures
+    by-rule s.self s.positive_drives_black s.lut s.n s.swing _ true s.self.tables c.if-self.true refl c.drive_beside.ensures
 
-pub returns : goal.returns
-returns c =
+pub returns-else-self : goal.returns-else-self
+returns-else-self c =
     let s = c.args in
-    by-rule s.self s.positive_drives_black s.lut s.n s.swing _ false _ c.if-self.false
-    c.tables-tables.ensures c.drive_table.ensures
+    by-rule s.self s.positive_drives_black s.lut s.n s.swing _ false s.self.tables c.if-self.false refl c.drive_table.ensures

@@ -1,9 +1,0 @@
--- `test_glass::refresh::read_waveform` is safe: five tables are stored.
-use Prim.Native.Nat.{◌-◌, ◌≤◌}
-use Rattle.test_glass.proofs.refresh.read_waveform.Given as goal
-
-abbrev pub invariant-loop-k : goal.invariant-loop-k
-invariant-loop-k l = l.k ≤ 5
-
-abbrev pub decreases-loop-k : goal.decreases-loop-k
-decreases-loop-k l = 5 - l.k
