@@ -1,7 +1,7 @@
 // One job: the panel of a configuration after a dump.
 ghost use Rattle.std.specs.Prelude.{◌≡◌, length};
 ghost use Rattle.controller.specs.Lent.{before, after, Keeps};
-ghost use Rattle.dumping.specs.Played.{Ran};
+ghost use Rattle.dumping.specs.Played.{Ran, SameLengths};
 
 use crate::playing::{Came, play};
 use crate::telling::{ROOM, bad_config, bad_dump, no_config, say};
@@ -168,6 +168,7 @@ fn with_dump<R: Files + Print + Eprint, I: Read>(
 ) -> Came
     requires { length config.now ≡ 312 }
     ensures ran { Ran result (length kept.new) (length word.new) (before lent) (after lent) }
+    ensures lengths { SameLengths lent }
     ensures same { Keeps lent }
 {
     let mut buffer = [0u8; ROOM];
@@ -189,6 +190,7 @@ fn with_kept<R: Files + Print + Eprint, I: Read>(
 ) -> Came
     requires { length config.now ≡ 312 }
     ensures ran { Ran result 1_048_576 (length word.new) (before lent) (after lent) }
+    ensures lengths { SameLengths lent }
     ensures same { Keeps lent }
 {
     let mut kept = [0u8; KEPT];
@@ -206,6 +208,7 @@ fn with_config<R: Files + io::Input + Print + Eprint>(
 ) -> Came
     requires { length config.now ≡ 312 }
     ensures ran { Ran result 1_048_576 (length word.new) (before lent) (after lent) }
+    ensures lengths { SameLengths lent }
     ensures same { Keeps lent }
 {
     let name = job.name;
@@ -238,6 +241,7 @@ pub fn run<R: Files + io::Input + Print + Eprint>(
     lent: &mut Lent<'_>,
 ) -> Came
     ensures ran { Ran result 1_048_576 (length word.new) (before lent) (after lent) }
+    ensures lengths { SameLengths lent }
     ensures same { Keeps lent }
 {
     let mut config = [0u8; CONFIG_ROOM];

@@ -145,6 +145,7 @@ pub(crate) fn play<I: Read>(
     ensures dumps { rule.Dumps result config.now (length kept.new) (length word.new)
         (rule.fitted config.now (before lent))
         (world result.chip (rule.fitted config.now (after lent))) }
+    ensures lengths { rule.SameLengths lent }
     ensures same { Keeps lent }
 {
     let (old, new, states, picture, rows) = (

@@ -15,3 +15,6 @@ returns-clause-ran g c =
 
 pub returns-clause-same : goal.returns-clause-same
 returns-clause-same g c = c.with_dump.ensures.same
+
+pub returns-clause-lengths : goal.returns-clause-lengths
+returns-clause-lengths g c = c.with_dump.ensures.lengths
