@@ -15,7 +15,7 @@ use vcd::Fault;
 use vcd_playing::make;
 use vcd_reading::Limit;
 
-// What a configuration and a dump came to.
+// What a configuration and a dump came to: one of four, no Option or Result.
 #[derive(Clone, Copy)]
 pub enum Came {
     // By the first refusal that is met, if any is.
@@ -58,7 +58,7 @@ fn came_of(ending: Option<Result<Result<(), Fault>, Limit>>, made: Option<Refusa
 
 // In buffers of the panel's size. A configuration that is turned back gives the record of zeros, which
 // turns back every call, so that the dump is read to its end for 11 and 12. Why the dump is turned back,
-// if it is, is put into a text.
+// if it is, is put into a text. The slices are apart as in `play_front`.
 fn play_in<I: Read>(
     config: &[u8],
     input: &mut I,

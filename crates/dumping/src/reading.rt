@@ -14,7 +14,7 @@ use vcd::Fault;
 use vcd_reading::{Limit, Reader, Stage, close, part, start};
 use vcd_reasons::{newlines, unsignalled};
 
-// How far reading got.
+// How far reading got: one of four, no Option or Result.
 #[derive(Clone, Copy)]
 enum Course {
     // There may be more.

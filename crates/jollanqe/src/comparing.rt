@@ -37,7 +37,8 @@ fn pixels_of(file: &[u8]) -> usize {
     capture::pixels(capture::config(file))
 }
 
-// A capture that passed its tests, played in the front of what is lent, and what that left.
+// A capture that passed its tests, played in the front of what is lent, and what that left. The slices are apart,
+// since a second picture and second rows go with the same planes: tried as a struct, which the check does not cover.
 fn play<'a>(
     file: &'a [u8],
     old: &mut [u8],
@@ -146,7 +147,7 @@ fn write<R: Files + Print + Eprint>(rt: &R, out: &[u8], a: Side<'_>, b: Side<'_>
 }
 
 // The captures of these names, both judged before one is played. The planes and states serve both, one
-// after the other.
+// after the other; the slices are apart as in `play`.
 pub(crate) fn run<R: Files + Input + Print + Eprint>(
     rt: &R,
     name_a: &[u8],

@@ -33,7 +33,8 @@ fn outcome(image: PanelImage) -> Outcome {
     Outcome { came, log, image }
 }
 
-// The picture, part by part, up to a write that fails.
+// The picture, part by part, up to a write that fails: a while, since each turn takes as many units as the
+// buffer does.
 fn write_parts<W: Write>(to: &mut W, o: Outcome, picture: &[u8]) -> io::Result<()> {
     let mut text = [0u8; crate::ROOM];
     let answers = [0u16; 1];
