@@ -6,13 +6,13 @@ use Rattle.base.specs.RefusalNumbers.{number_of}
 use Rattle.capture.specs.Layout.{config_of, pixel_count}
 use Rattle.controller.specs.declared.Uc8253.{Uc8253}
 use Rattle.controller.specs.World.{World, Buffers, buffers, world}
-use Rattle.controller.specs.Lent.{Over, before, after}
 use Rattle.vcd.specs.declared.judging.Fault.{Fault}
 use Rattle.vcd.specs.declared.judging.Fault.TheVariants.{Malformed, Unsignalled}
 use Rattle.vcd.specs.Dump.{dump_refused}
 use Rattle.vcd.specs.Played.{dump_played}
 use Rattle.vcd_reading.specs.declared.closing.Limit.TheVariants as limit
 use Rattle.vcd_reading.specs.Reading.{LongHead, LongWord}
+pub use Rattle.vcd_reading.specs.Reading.{SameLengths}
 use Rattle.dumping.specs.declared.playing.Came.{Came}
 use Rattle.dumping.specs.declared.playing.Came.TheVariants as came
 use Rattle.dumping.specs.declared.playing.Dumped.{Dumped}
@@ -59,10 +59,3 @@ pub record Ran (r : Came) (most longest : ℕ) (b u : Buffers) : Type 0 where
   pub chip : Uc8253
   pub came_to : CameTo r config dump most longest (fitted config b) (world chip (fitted config u))
   pub kept : (length config ≡ 312 → ⊥) → u ≡ b
-
--- each slice that is lent keeps its length
-abbrev pub SameLengths : Over (Type 0)
-SameLengths lent =
-    (length (after lent).old ≡ length (before lent).old) × (length (after lent).new ≡ length (before lent).new)
-    × (length (after lent).states ≡ length (before lent).states) × (length (after lent).picture ≡ length (before lent).picture)
-    × (length (after lent).rows ≡ length (before lent).rows)

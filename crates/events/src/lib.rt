@@ -73,7 +73,14 @@ fn next_events(
         (number_of result.refused) }
     ensures kept { Keeps lent }
 {
-    let f = stream(p, events, from, lent);
+    let (old, new, states, picture, rows) = (
+        &mut *lent.old,
+        &mut *lent.new,
+        &mut *lent.states,
+        &mut *lent.picture,
+        &mut *lent.rows,
+    );
+    let f = stream(p, events, from, old, new, states, picture, rows);
     let chip = f.chip;
     if f.done != 0 {
         mark(answers, from, f.done);

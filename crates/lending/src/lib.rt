@@ -11,8 +11,8 @@ ghost use Rattle.base.specs.RefusalNumbers.{number_in};
 ghost use Rattle.controller.specs.Arrives.{arrived};
 ghost use Rattle.controller.specs.Ask as ask;
 ghost use Rattle.controller.specs.DataByte as plane;
-ghost use Rattle.controller.specs.World.{world};
-ghost use Rattle.controller.specs.Lent.{Keeps, held, before, after};
+ghost use Rattle.controller.specs.World.{buffers, world};
+ghost use Rattle.controller.specs.Lent.{Keeps, before, after};
 ghost use Rattle.controller.specs.TurnedBack.{turned_back};
 
 use arriving::arrive;
@@ -22,7 +22,7 @@ use controller::{Lent, Notes, Uc8253};
 use data_bytes::put_byte;
 use pixels::all_states;
 use refreshes::settle;
-use rules::{ends_refresh, foreign, lent_fits, store_notes};
+use rules::{ends_refresh, foreign, lengths_fit, store_notes};
 
 // 7: a state out of range.
 fn foreign_contents(swing: u64, states: &[i64]) -> Result<(), Refusal>
@@ -35,30 +35,74 @@ fn foreign_contents(swing: u64, states: &[i64]) -> Result<(), Refusal>
 }
 
 // 6, 5, 7 of a call at a time, which may assert reset.
-fn turned_back(p: Uc8253, at: u64, asserted: bool, lent: &Lent<'_>) -> Result<(), Refusal>
-    ensures { number_in result ≡ turned_back asserted at (world p (held lent.now)) }
+fn turned_back(
+    p: Uc8253,
+    at: u64,
+    asserted: bool,
+    old: &[u8],
+    new: &[u8],
+    states: &[i64],
+    picture: &[u8],
+    rows: &[u64],
+) -> Result<(), Refusal>
+    ensures { number_in result
+        ≡ turned_back asserted at (world p (buffers old.now new.now states.now picture.now rows.now)) }
 {
     if foreign(p) {
         return Err(Refusal::ForeignRecord);
     }
-    if lent_fits(p.config, lent) {
+    if lengths_fit(
+        p.config,
+        old.len(),
+        new.len(),
+        states.len(),
+        picture.len(),
+        rows.len(),
+    ) {
         if ends_refresh(p, at, asserted) {
-            return foreign_contents(p.config.optics.full_swing, lent.states);
+            return foreign_contents(p.config.optics.full_swing, states);
         }
         return Ok(());
     }
     Err(Refusal::BufferLength)
 }
 
-// A call comes at a time: it is turned back, or a refresh that it ends moves the glass and the old plane.
-pub fn come(p: Uc8253, at: u64, asserted: bool, lent: &mut Lent<'_>) -> Result<(), Refusal>
+// A call comes at a time: it is turned back, or a refresh that it ends moves the glass and the old plane. The
+// slices are apart, since a caller need not lend what only is read here, the new plane and the rows, to be written.
+pub fn come(
+    p: Uc8253,
+    at: u64,
+    asserted: bool,
+    old: &mut [u8],
+    new: &[u8],
+    states: &mut [i64],
+    picture: &mut [u8],
+    rows: &[u64],
+) -> Result<(), Refusal>
+    ensures gives { number_in result
+        ≡ turned_back asserted at (world p (buffers old.old new.now states.old picture.old rows.now)) }
+    ensures comes { buffers old.new new.now states.new picture.new rows.now
+        ≡ come_to asserted at p (buffers old.old new.now states.old picture.old rows.now) }
+{
+    turned_back(p, at, asserted, old, new, states, picture, rows)?;
+    settle(p, at, asserted, old, new, states, picture);
+    Ok(())
+}
+
+// The same of all that a call is lent.
+pub fn come_lent(p: Uc8253, at: u64, asserted: bool, lent: &mut Lent<'_>) -> Result<(), Refusal>
     ensures gives { number_in result ≡ turned_back asserted at (world p (before lent)) }
     ensures comes { after lent ≡ come_to asserted at p (before lent) }
     ensures kept { Keeps lent }
 {
-    turned_back(p, at, asserted, lent)?;
-    settle(p, at, asserted, lent);
-    Ok(())
+    let (old, new, states, picture, rows) = (
+        &mut *lent.old,
+        &mut *lent.new,
+        &mut *lent.states,
+        &mut *lent.picture,
+        &mut *lent.rows,
+    );
+    come(p, at, asserted, old, new, states, picture, rows)
 }
 
 // The rows store what a call at a time tells.
@@ -75,15 +119,12 @@ pub fn lend_command(p: Uc8253, at: u64, command: u8, rows: &mut [u64])
     store(p, at, told_command(p, at, command), rows);
 }
 
-// The planes and the rows after a data byte, whose call has come.
-pub fn lend_data(p: Uc8253, at: u64, byte: u8, lent: &mut Lent<'_>)
-    ensures planes { (after lent).old ≡ plane.plane_byte plane.for_old byte (arrived at p) (before lent).old
-        × (after lent).new ≡ ask.new_after (ask.datum at byte) p (before lent).new }
-    ensures rows { (after lent).rows ≡ ask.rows_after (ask.datum at byte) p (before lent).rows }
-    ensures glass { ((after lent).states ≡ (before lent).states) × ((after lent).picture ≡ (before lent).picture) }
-    ensures kept { Keeps lent }
+// The planes and the rows after a data byte, whose call has come. The glass need not be lent.
+pub fn lend_data(p: Uc8253, at: u64, byte: u8, old: &mut [u8], new: &mut [u8], rows: &mut [u64])
+    ensures planes { (old.new ≡ plane.plane_byte plane.for_old byte (arrived at p) old.old)
+        × (new.new ≡ ask.new_after (ask.datum at byte) p new.old) }
+    ensures rows { rows.new ≡ ask.rows_after (ask.datum at byte) p rows.old }
 {
-    let (old, new, rows) = (&mut *lent.old, &mut *lent.new, &mut *lent.rows);
     put_byte(arrive(p, at), byte, old, new);
     store(p, at, told_data(p, at, byte), rows);
 }

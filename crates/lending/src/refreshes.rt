@@ -7,9 +7,8 @@ ghost use Rattle.controller.specs.Refresh.{mapping_now};
 ghost use Rattle.controller.specs.Planes.{copied_by, old_arrived};
 ghost use Rattle.controller.specs.TurnedBack.{ends_refresh};
 ghost use Rattle.controller.specs.Counting.{own};
-ghost use Rattle.controller.specs.Lent.{Keeps, held, before, after};
 
-use controller::{Drive, Lent, Uc8253, Work};
+use controller::{Drive, Uc8253, Work};
 use driving::drive_panel;
 use glass::Transfers;
 use numbers::Mapping;
@@ -69,23 +68,22 @@ fn copy_after(p: Uc8253, old: &mut [u8], new: &[u8])
 }
 
 // A refresh that the call ends: the numbers come from the planes as they are, then new is copied to old.
-pub(crate) fn settle(p: Uc8253, at: u64, asserted: bool, lent: &mut Lent<'_>)
-    requires { steps.SwingFits p × (ends_refresh asserted at p ≡ true → steps.StatesFit p (held lent.now).states) }
-    ensures old_after { (after lent).old ≡ old_arrived at p (before lent).old (before lent).new }
-    ensures states_after { (after lent).states
-        ≡ states_by (driven_at own asserted at p) p (before lent).old (before lent).new (before lent).states }
-    ensures picture_after { (after lent).picture
-        ≡ picture_by (driven_at own asserted at p) p (after lent).states (before lent).picture }
-    ensures others { ((after lent).new ≡ (before lent).new) × ((after lent).rows ≡ (before lent).rows) }
-    ensures kept { Keeps lent }
+pub(crate) fn settle(
+    p: Uc8253,
+    at: u64,
+    asserted: bool,
+    old: &mut [u8],
+    new: &[u8],
+    states: &mut [i64],
+    picture: &mut [u8],
+)
+    requires { steps.SwingFits p × (ends_refresh asserted at p ≡ true → steps.StatesFit p states.old) }
+    ensures old_after { old.new ≡ old_arrived at p old.old new.now }
+    ensures states_after { states.new
+        ≡ states_by (driven_at own asserted at p) p old.old new.now states.old }
+    ensures picture_after { picture.new ≡ picture_by (driven_at own asserted at p) p states.new picture.old }
 {
     let swing = p.config.optics.full_swing;
-    let (old, new, states, picture) = (
-        &mut *lent.old,
-        &mut *lent.new,
-        &mut *lent.states,
-        &mut *lent.picture,
-    );
     match drive_at(p, at, asserted) {
         Drive::Nothing => {}
         Drive::Whole => {

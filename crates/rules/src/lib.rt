@@ -11,5 +11,5 @@ mod uses;
 pub use changes::{drive_at, logged, rested, start, store_notes, with_current};
 pub use notes::{barred, close_note, refresh_note};
 pub use reads::{busy_at, driven_byte};
-pub use refused::{ends_refresh, foreign, lent_fits};
+pub use refused::{ends_refresh, foreign, lengths_fit, lent_fits};
 pub use uses::{counted, purpose};

@@ -92,7 +92,7 @@ pub fn foreign(p: Uc8253) -> bool
 
 // 5: the lengths of the lent buffers.
 #[tactic(auto, unfolding(controller::specs::TurnedBack::lengths_fit))]
-fn lengths_fit(
+pub fn lengths_fit(
     config: Uc8253Config,
     old: usize,
     new: usize,

@@ -3,19 +3,18 @@
 #![tactic(auto)]
 
 ghost use Rattle.std.specs.Prelude.{◌≡◌, ◌≤◌};
-ghost use Rattle.controller.specs.World.{world};
-ghost use Rattle.controller.specs.Lent.{Keeps, before, after};
+ghost use Rattle.controller.specs.World.{buffers, world};
 ghost use Rattle.event.specs.Events.{events_in};
 ghost use Rattle.streams.specs.InnerStretch as rule;
 
 use capture::{DATA, EVENT_BYTES};
 use command::{DTM1, DTM2, Kind, Params};
-use controller::{Active, Current, Lent, Stage, Uc8253, Work};
+use controller::{Active, Current, Stage, Uc8253, Work};
 use data_bytes::put_at;
 use event::event_at;
 use ram::{Cursor, next};
 use registers::Area;
-use rules::{counted, foreign, lent_fits, with_current};
+use rules::{counted, foreign, lengths_fit, with_current};
 
 // The record after some events, and how many there were.
 #[derive(Clone, Copy)]
@@ -117,21 +116,37 @@ fn aim(stage: Stage) -> Target
 }
 
 // The pixel bytes from an event of the bytes on, if there are some and they can go as a run; else none, and past
-// the last event there is none.
+// the last event there is none. The slices are apart, since a caller need not lend what only is measured here, the glass
+// and the rows, to be written.
 #[tactic(auto, using(crate::proofs::StreamLaws::stretch_none))]
-pub fn stream(p: Uc8253, events: &[u8], from: usize, lent: &mut Lent<'_>) -> Flowed
-    ensures stretch { rule.Stretch events.now from result.done (world p (before lent)) (world result.chip (after lent)) }
-    ensures others { ((after lent).states ≡ (before lent).states) × ((after lent).picture ≡ (before lent).picture)
-        × ((after lent).rows ≡ (before lent).rows) }
-    ensures kept { Keeps lent }
+pub fn stream(
+    p: Uc8253,
+    events: &[u8],
+    from: usize,
+    old: &mut [u8],
+    new: &mut [u8],
+    states: &[i64],
+    picture: &[u8],
+    rows: &[u64],
+) -> Flowed
+    ensures { rule.Stretch events.now from result.done
+        (world p (buffers old.old new.old states.now picture.now rows.now))
+        (world result.chip (buffers old.new new.new states.now picture.now rows.now)) }
 {
     if events.len() / EVENT_BYTES < from {
         return Flowed { chip: p, done: 0 };
     }
-    let fits = lent_fits(p.config, lent);
+    let fits = lengths_fit(
+        p.config,
+        old.len(),
+        new.len(),
+        states.len(),
+        picture.len(),
+        rows.len(),
+    );
     match aim(p.stage) {
-        Target::Older(a) if calm(p, fits) => flow_into(p, a, lent.old, events, from),
-        Target::Newer(a) if calm(p, fits) => flow_into(p, a, lent.new, events, from),
+        Target::Older(a) if calm(p, fits) => flow_into(p, a, old, events, from),
+        Target::Newer(a) if calm(p, fits) => flow_into(p, a, new, events, from),
         _ => Flowed { chip: p, done: 0 },
     }
 }

@@ -16,7 +16,7 @@ use base::Refusal;
 use chip::{after_advance, after_command, after_data, after_read, after_reset, after_rule};
 use controller::{Lent, Uc8253};
 use data_bytes::read_of;
-use lending::{come, lend_command, lend_data, lend_read, lend_reset};
+use lending::{come_lent, lend_command, lend_data, lend_read, lend_reset};
 pub use making::{power_on, zeros};
 pub use questions::{
     Taken, busy_pin, next_deadline, ram_bit, row, row_refused, take_diagnostics, wide_picture,
@@ -39,7 +39,7 @@ pub fn write_command(
     ensures called { Called (ask.command at command) p result lent }
     ensures kept { Keeps lent }
 {
-    come(p, at, false, lent)?;
+    come_lent(p, at, false, lent)?;
     lend_command(p, at, command, lent.rows);
     Ok(after_command(p, at, command))
 }
@@ -49,8 +49,9 @@ pub fn write_data(p: Uc8253, at: u64, byte: u8, lent: &mut Lent<'_>) -> Result<U
     ensures called { Called (ask.datum at byte) p result lent }
     ensures kept { Keeps lent }
 {
-    come(p, at, false, lent)?;
-    lend_data(p, at, byte, lent);
+    come_lent(p, at, false, lent)?;
+    let (old, new, rows) = (&mut *lent.old, &mut *lent.new, &mut *lent.rows);
+    lend_data(p, at, byte, old, new, rows);
     Ok(after_data(p, at, byte))
 }
 
@@ -60,7 +61,7 @@ pub fn read_data(p: Uc8253, at: u64, lent: &mut Lent<'_>) -> Result<ReadAnswer, 
     ensures answers { Answers (ask.reading at) p (ask.byte (given (λ (a : ReadAnswer). a.byte) None result)) lent }
     ensures kept { Keeps lent }
 {
-    come(p, at, false, lent)?;
+    come_lent(p, at, false, lent)?;
     lend_read(p, at, lent.rows);
     let chip = after_read(p, at);
     let byte = read_of(arrive(p, at));
@@ -72,7 +73,7 @@ pub fn set_reset(p: Uc8253, at: u64, asserted: bool, lent: &mut Lent<'_>) -> Res
     ensures called { Called (ask.reset at asserted) p result lent }
     ensures kept { Keeps lent }
 {
-    come(p, at, asserted, lent)?;
+    come_lent(p, at, asserted, lent)?;
     lend_reset(p, at, asserted, lent.rows);
     Ok(after_reset(p, at, asserted))
 }
@@ -83,7 +84,7 @@ pub fn advance(p: Uc8253, at: u64, lent: &mut Lent<'_>) -> Result<Uc8253, Refusa
     ensures called { Called (ask.advance at) p result lent }
     ensures kept { Keeps lent }
 {
-    come(p, at, false, lent)?;
+    come_lent(p, at, false, lent)?;
     Ok(after_advance(p, at))
 }
 
@@ -97,6 +98,6 @@ pub fn set_vcom_rule(
     ensures called { Called (ask.vcom_rule at by_frame) p result lent }
     ensures kept { Keeps lent }
 {
-    come(p, at, false, lent)?;
+    come_lent(p, at, false, lent)?;
     Ok(after_rule(p, at, by_frame))
 }

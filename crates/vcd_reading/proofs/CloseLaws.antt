@@ -3,8 +3,10 @@ use mathlib.Core.Path.{◌≡◌, refl, sym, ap, subst, ◌∙◌}
 use mathlib.Core.List.{List, [], ◌∷◌, ◌++◌, append-nil}
 use Prim.Native.Nat.{ℕ}
 use lib.ListN.{take, drop}
+use lib.IntN.{ℤ}
 use Rattle.std.proofs.Common.{Result, Ok}
-use Rattle.controller.specs.World.{World}
+use Rattle.controller.specs.World.{World, buffers, world}
+use Rattle.controller.specs.declared.Uc8253.{Uc8253}
 use Rattle.vcd_words.specs.Words.{closed, opened, words}
 use Rattle.vcd_words.proofs.Cutting.{words_cut}
 use Rattle.vcd_declarations.specs.declared.head.Begun.{Begun}
@@ -32,6 +34,12 @@ use Rattle.vcd_reading.proofs.ReadLaws.{more_done}
 -- what a dump that was read to its end comes to
 abbrev whole : Result (Unit {0}) Fault → Result (Result (Unit {0}) Fault) Limit
 whole j = Ok j
+
+-- ---- slices that hold the same
+pub closes_in : (x : Stage) (d : List ℕ) (r : Closed) (w v : World) (c : Uc8253) {o o₂ n n₂ p p₂ q q₂ : List ℕ} {s s₂ : List ℤ}
+    → o ≡ o₂ → n ≡ n₂ → s ≡ s₂ → p ≡ p₂ → q ≡ q₂
+    → Closes x d r w v (world c (buffers o₂ n₂ s₂ p₂ q₂)) → Closes x d r w v (world c (buffers o n s p q))
+closes_in x d r w v c o n s p q h = rw (o, n, s, p, q) h
 
 -- ---- the words after the declarations, all of them
 abbrev all_went : List ℕ → Begun → Went

@@ -6,10 +6,12 @@ use mathlib.Core.Logic.{◌⊎◌, inl, inr}
 use Prim.Native.Nat.{ℕ, suc, ◌≤◌, ◌<◌}
 use native.Mathlib.Omega.{arith}
 use lib.ListN.{length, take, drop, length-append, length-drop, take-append-drop}
+use lib.IntN.{ℤ}
 use lib.Seq.{drop-append-le, length-take-le, take_all}
 use Rattle.std.proofs.Common.{Option, Some, None}
 use Rattle.base.proofs.Cases.{by_cases}
-use Rattle.controller.specs.World.{World}
+use Rattle.controller.specs.World.{World, buffers, world}
+use Rattle.controller.specs.declared.Uc8253.{Uc8253}
 use Rattle.vcd_words.specs.Words.{is_blank, closed, opened, words}
 use Rattle.vcd_words.specs.Places.{front, is_solid}
 use Rattle.vcd_words.proofs.Cutting.{words_cut, closed_join, opened_join, stays_closed, stays_open}
@@ -54,6 +56,12 @@ stands_as d kept word w v e s = subst (λ (x : Reader). Stands d x kept word w v
 
 pub dump_as : {d d' : List ℕ} (r : Reader) (kept word : List ℕ) (w v : World) → d ≡ d' → Stands d r kept word w v → Stands d' r kept word w v
 dump_as r kept word w v e s = subst (λ (x : List ℕ). Stands x r kept word w v) e s
+
+-- ---- slices that hold the same
+pub stands_in : (d kept word : List ℕ) (r : Reader) (w : World) (c : Uc8253) {o o₂ n n₂ p p₂ q q₂ : List ℕ} {s s₂ : List ℤ}
+    → o ≡ o₂ → n ≡ n₂ → s ≡ s₂ → p ≡ p₂ → q ≡ q₂
+    → Stands d r kept word w (world c (buffers o₂ n₂ s₂ p₂ q₂)) → Stands d r kept word w (world c (buffers o n s p q))
+stands_in d kept word r w c o n s p q h = rw (o, n, s, p, q) h
 
 -- ---- by the stage
 pub at_stage : (d : List ℕ) (r : Reader) (kept word : List ℕ) (w v : World) (x : Stage) → r.stage ≡ x → Stands d r kept word w v → StandsBy x d r kept word w v

@@ -1,6 +1,7 @@
 -- 2026-01: a dump that is read part by part: what a reader and its two buffers stand for.
 use Rattle.std.specs.Prelude.{◌≡◌, List, [], ◌++◌, ℕ, ◌≤◌, ◌<◌, length, take, drop, Ok, Err}
 use Rattle.controller.specs.World.{World}
+use Rattle.controller.specs.Lent.{Over, before, after}
 use Rattle.vcd_words.specs.Words.{closed, opened}
 use Rattle.vcd_declarations.specs.declared.head.Begun.{Begun}
 use Rattle.vcd_declarations.specs.Begun.{Begins}
@@ -70,3 +71,10 @@ Closes stage.Heading d c w v u = (c.ending ≡ Ok (judged d)) × (u ≡ calls (d
 Closes stage.Playing d c w v u = (c.ending ≡ Ok (judged d)) × (u ≡ calls (dump_events d) w)
 Closes stage.HeadTooLong d c w v u = (c.ending ≡ Err limit.HeadTooLong) × (u ≡ v)
 Closes stage.WordTooLong d c w v u = (c.ending ≡ Err limit.WordTooLong) × (u ≡ v)
+
+-- each slice that is lent keeps its length
+abbrev pub SameLengths : Over (Type 0)
+SameLengths lent =
+    (length (after lent).old ≡ length (before lent).old) × (length (after lent).new ≡ length (before lent).new)
+    × (length (after lent).states ≡ length (before lent).states) × (length (after lent).picture ≡ length (before lent).picture)
+    × (length (after lent).rows ≡ length (before lent).rows)

@@ -1,6 +1,6 @@
 // The end of a dump that was read part by part.
 ghost use Rattle.std.specs.Prelude.{List, ℕ};
-ghost use Rattle.controller.specs.World.{World, world};
+ghost use Rattle.controller.specs.World.{World, buffers, world};
 ghost use Rattle.controller.specs.Lent.{before, after, Keeps};
 ghost use Rattle.vcd_reading.specs.Reading as rule;
 ghost use Rattle.vcd_reading.specs.InnerStep.{ClosesWords};
@@ -47,8 +47,8 @@ fn close_words(
     Closed { chip, ending }
 }
 
-// No part follows.
-pub fn close(r: Reader, p: Uc8253, kept: &[u8], word: &[u8], lent: &mut Lent<'_>) -> Closed
+// By the stage.
+fn close_by(r: Reader, p: Uc8253, kept: &[u8], word: &[u8], lent: &mut Lent<'_>) -> Closed
     ensures closes { (d : List ℕ) (w : World)
         → rule.Stands d r kept.now word.now w (world p (before lent))
         → rule.Closes r.stage d result w (world p (before lent)) (world result.chip (after lent)) }
@@ -73,4 +73,51 @@ pub fn close(r: Reader, p: Uc8253, kept: &[u8], word: &[u8], lent: &mut Lent<'_>
             ending: Err(Limit::WordTooLong),
         },
     }
+}
+
+// The slices are apart: that each keeps its length is known of slices, and not of what is lent as one.
+fn close_in(
+    r: Reader,
+    p: Uc8253,
+    kept: &[u8],
+    word: &[u8],
+    old: &mut [u8],
+    new: &mut [u8],
+    states: &mut [i64],
+    picture: &mut [u8],
+    rows: &mut [u64],
+) -> Closed
+    ensures { (d : List ℕ) (w : World)
+        → rule.Stands d r kept.now word.now w
+        (world p (buffers old.old new.old states.old picture.old rows.old))
+        → rule.Closes r.stage d result w
+        (world p (buffers old.old new.old states.old picture.old rows.old))
+        (world result.chip (buffers old.new new.new states.new picture.new rows.new)) }
+{
+    let mut lent = Lent {
+        old,
+        new,
+        states,
+        picture,
+        rows,
+    };
+    close_by(r, p, kept, word, &mut lent)
+}
+
+// No part follows.
+pub fn close(r: Reader, p: Uc8253, kept: &[u8], word: &[u8], lent: &mut Lent<'_>) -> Closed
+    ensures closes { (d : List ℕ) (w : World)
+        → rule.Stands d r kept.now word.now w (world p (before lent))
+        → rule.Closes r.stage d result w (world p (before lent)) (world result.chip (after lent)) }
+    ensures lengths { rule.SameLengths lent }
+    ensures same { Keeps lent }
+{
+    let (old, new, states, picture, rows) = (
+        &mut *lent.old,
+        &mut *lent.new,
+        &mut *lent.states,
+        &mut *lent.picture,
+        &mut *lent.rows,
+    );
+    close_in(r, p, kept, word, old, new, states, picture, rows)
 }

@@ -1,6 +1,6 @@
 // One part more of a dump.
 ghost use Rattle.std.specs.Prelude.{◌≡◌, List, ◌++◌, ℕ, ◌≤◌, ◌<◌, length, take, drop};
-ghost use Rattle.controller.specs.World.{World, world};
+ghost use Rattle.controller.specs.World.{World, buffers, world};
 ghost use Rattle.controller.specs.Lent.{before, after, Keeps};
 ghost use Rattle.vcd_words.specs.Words.{closed};
 ghost use Rattle.vcd_declarations.specs.Begun.{Begins};
@@ -183,8 +183,8 @@ fn keep(
     Step { reader, chip: p }
 }
 
-// The next part of a dump, of any length.
-pub fn part(
+// By the stage: a limit that was met stays met.
+fn next_part(
     r: Reader,
     p: Uc8253,
     bytes: &[u8],
@@ -202,4 +202,58 @@ pub fn part(
         Stage::Playing => go_on(r, p, kept, bytes, word, lent),
         Stage::HeadTooLong | Stage::WordTooLong => Step { reader: r, chip: p },
     }
+}
+
+// The slices are apart: that each keeps its length is known of slices, and not of what is lent as one.
+fn part_in(
+    r: Reader,
+    p: Uc8253,
+    bytes: &[u8],
+    kept: &mut [u8],
+    word: &mut [u8],
+    old: &mut [u8],
+    new: &mut [u8],
+    states: &mut [i64],
+    picture: &mut [u8],
+    rows: &mut [u64],
+) -> Step
+    ensures { (d : List ℕ) (w : World)
+        → rule.Stands d r kept.old word.old w
+        (world p (buffers old.old new.old states.old picture.old rows.old))
+        → rule.Stands (d ++ bytes.now) result.reader kept.new word.new w
+        (world result.chip (buffers old.new new.new states.new picture.new rows.new)) }
+{
+    let mut lent = Lent {
+        old,
+        new,
+        states,
+        picture,
+        rows,
+    };
+    next_part(r, p, bytes, kept, word, &mut lent)
+}
+
+// The next part of a dump, of any length.
+pub fn part(
+    r: Reader,
+    p: Uc8253,
+    bytes: &[u8],
+    kept: &mut [u8],
+    word: &mut [u8],
+    lent: &mut Lent<'_>,
+) -> Step
+    ensures stands { (d : List ℕ) (w : World)
+        → rule.Stands d r kept.old word.old w (world p (before lent))
+        → rule.Stands (d ++ bytes.now) result.reader kept.new word.new w (world result.chip (after lent)) }
+    ensures lengths { rule.SameLengths lent }
+    ensures same { Keeps lent }
+{
+    let (old, new, states, picture, rows) = (
+        &mut *lent.old,
+        &mut *lent.new,
+        &mut *lent.states,
+        &mut *lent.picture,
+        &mut *lent.rows,
+    );
+    part_in(r, p, bytes, kept, word, old, new, states, picture, rows)
 }

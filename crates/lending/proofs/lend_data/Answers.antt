@@ -2,7 +2,6 @@
 use Rattle.controller.specs.DataByte.{for_old, for_new, plane_byte}
 use Rattle.controller.specs.declared.notes.Notes.{Notes}
 use Rattle.controller.specs.Ask.{new_after, rows_after}
-use Rattle.controller.specs.Lent.{held}
 use Rattle.controller.specs.declared.Uc8253.{Uc8253}
 use Rattle.lending.specs.InnerSteps.{stored}
 use mathlib.Core.Path.{ap, ◌∙◌}
@@ -11,13 +10,12 @@ use Rattle.lending.proofs.lend_data.Goals as goal
 pub returns-clause-planes : goal.returns-clause-planes
 unfolding new_after
 returns-clause-planes c =
-    let g = c.args in
-    let b = held g.lent.now in (
-      c.put_byte.ensures.0 ∙ ap (λ (q : Uc8253). plane_byte for_old g.byte q b.old) c.arrive.ensures,
-      c.put_byte.ensures.1 ∙ ap (λ (q : Uc8253). plane_byte for_new g.byte q b.new) c.arrive.ensures,
+    let g = c.args in (
+      c.put_byte.ensures.0 ∙ ap (λ (q : Uc8253). plane_byte for_old g.byte q g.old.now) c.arrive.ensures,
+      c.put_byte.ensures.1 ∙ ap (λ (q : Uc8253). plane_byte for_new g.byte q g.new.now) c.arrive.ensures,
     )
 
 pub returns-clause-rows : goal.returns-clause-rows
 unfolding rows_after
 returns-clause-rows c =
-    let g = c.args in c.store.ensures ∙ ap (λ (n : Notes). stored g.at n g.p (held g.lent.now).rows) c.told_data.ensures
+    let g = c.args in c.store.ensures ∙ ap (λ (n : Notes). stored g.at n g.p g.rows.now) c.told_data.ensures

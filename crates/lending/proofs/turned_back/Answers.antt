@@ -12,12 +12,12 @@ returns-then-foreign c = yes _ (sym c.foreign.ensures ∙ c.if-foreign.true) ref
 
 pub returns-then-ends_refresh : goal.returns-then-ends_refresh
 unfolding turned_back
-returns-then-ends_refresh c = no _ (sym c.foreign.ensures ∙ c.if-foreign.false) (yes _ (sym c.lent_fits.ensures ∙ c.if-lent_fits.true) (contents _ _ (sym c.ends_refresh.ensures ∙ c.if-ends_refresh.true) c.foreign_contents.ensures))
+returns-then-ends_refresh c = no _ (sym c.foreign.ensures ∙ c.if-foreign.false) (yes _ (sym c.lengths_fit.ensures ∙ c.if-lengths_fit.true) (contents _ _ (sym c.ends_refresh.ensures ∙ c.if-ends_refresh.true) c.foreign_contents.ensures))
 
-pub returns-then-lent_fits : goal.returns-then-lent_fits
+pub returns-then-lengths_fit : goal.returns-then-lengths_fit
 unfolding turned_back
-returns-then-lent_fits c = no _ (sym c.foreign.ensures ∙ c.if-foreign.false) (yes _ (sym c.lent_fits.ensures ∙ c.if-lent_fits.true) (no _ (not_both _ (sym c.ends_refresh.ensures ∙ c.if-ends_refresh.false)) refl))
+returns-then-lengths_fit c = no _ (sym c.foreign.ensures ∙ c.if-foreign.false) (yes _ (sym c.lengths_fit.ensures ∙ c.if-lengths_fit.true) (no _ (not_both _ (sym c.ends_refresh.ensures ∙ c.if-ends_refresh.false)) refl))
 
 pub returns : goal.returns
 unfolding turned_back
-returns c = no _ (sym c.foreign.ensures ∙ c.if-foreign.false) (no _ (sym c.lent_fits.ensures ∙ c.if-lent_fits.false) refl)
+returns c = no _ (sym c.foreign.ensures ∙ c.if-foreign.false) (no _ (sym c.lengths_fit.ensures ∙ c.if-lengths_fit.false) refl)

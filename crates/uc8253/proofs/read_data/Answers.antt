@@ -7,21 +7,21 @@ use Rattle.uc8253.proofs.Calls.{call_accepted, call_refused, read_accepted, read
 use mathlib.Core.Path.{refl}
 use Rattle.uc8253.proofs.read_data.Goals as goal
 
-pub returns-in_err-come-clause-called : goal.returns-in_err-come-clause-called
-returns-in_err-come-clause-called c =
+pub returns-in_err-come_lent-clause-called : goal.returns-in_err-come_lent-clause-called
+returns-in_err-come_lent-clause-called c =
     rw (handed_on _ _ c.from_residual.ensures.1)
-    (call_refused (ask.reading c.args.at) refl c.args.p (held c.args.lent.now) c.come.ensures.comes _ c.in_err-come.ensures.gives)
+    (call_refused (ask.reading c.args.at) refl c.args.p (held c.args.lent.now) c.come_lent.ensures.comes _ c.in_err-come_lent.ensures.gives)
 
 pub returns-clause-called : goal.returns-clause-called
 unfolding new_after
 returns-clause-called c =
-    call_accepted (ask.reading c.args.at) refl c.args.p (held c.args.lent.now) c.come.ensures.comes c.in_ok-come.ensures.gives c.after_read-chip.ensures
+    call_accepted (ask.reading c.args.at) refl c.args.p (held c.args.lent.now) c.come_lent.ensures.comes c.in_ok-come_lent.ensures.gives c.after_read-chip.ensures
     refl refl refl refl c.lend_read.ensures
 
-pub returns-in_err-come-clause-answers : goal.returns-in_err-come-clause-answers
-returns-in_err-come-clause-answers c =
-    rw (handed_on _ _ c.from_residual.ensures.1) (read_refused c.args.at c.args.p (held c.args.lent.now) _ c.in_err-come.ensures.gives)
+pub returns-in_err-come_lent-clause-answers : goal.returns-in_err-come_lent-clause-answers
+returns-in_err-come_lent-clause-answers c =
+    rw (handed_on _ _ c.from_residual.ensures.1) (read_refused c.args.at c.args.p (held c.args.lent.now) _ c.in_err-come_lent.ensures.gives)
 
 pub returns-clause-answers : goal.returns-clause-answers
 returns-clause-answers c =
-    read_accepted c.args.at c.args.p (held c.args.lent.now) c.in_ok-come.ensures.gives c.arrive.ensures c.read_of-byte.ensures
+    read_accepted c.args.at c.args.p (held c.args.lent.now) c.in_ok-come_lent.ensures.gives c.arrive.ensures c.read_of-byte.ensures

@@ -7,13 +7,13 @@ use Rattle.uc8253.proofs.Calls.{call_accepted, call_refused}
 use mathlib.Core.Path.{refl}
 use Rattle.uc8253.proofs.set_vcom_rule.Goals as goal
 
-pub returns-in_err-come-clause-called : goal.returns-in_err-come-clause-called
-returns-in_err-come-clause-called c =
+pub returns-in_err-come_lent-clause-called : goal.returns-in_err-come_lent-clause-called
+returns-in_err-come_lent-clause-called c =
     rw (handed_on _ _ c.from_residual.ensures.1)
-    (call_refused (ask.vcom_rule c.args.at c.args.by_frame) refl c.args.p (held c.args.lent.now) c.come.ensures.comes _ c.in_err-come.ensures.gives)
+    (call_refused (ask.vcom_rule c.args.at c.args.by_frame) refl c.args.p (held c.args.lent.now) c.come_lent.ensures.comes _ c.in_err-come_lent.ensures.gives)
 
 pub returns-clause-called : goal.returns-clause-called
 unfolding new_after rows_after
 returns-clause-called c =
-    call_accepted (ask.vcom_rule c.args.at c.args.by_frame) refl c.args.p (held c.args.lent.now) c.come.ensures.comes c.in_ok-come.ensures.gives c.after_rule.ensures
+    call_accepted (ask.vcom_rule c.args.at c.args.by_frame) refl c.args.p (held c.args.lent.now) c.come_lent.ensures.comes c.in_ok-come_lent.ensures.gives c.after_rule.ensures
     refl refl refl refl refl

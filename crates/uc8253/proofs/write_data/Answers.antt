@@ -6,12 +6,12 @@ use Rattle.uc8253.proofs.Calls.{call_accepted, call_refused}
 use mathlib.Core.Path.{refl}
 use Rattle.uc8253.proofs.write_data.Goals as goal
 
-pub returns-in_err-come-clause-called : goal.returns-in_err-come-clause-called
-returns-in_err-come-clause-called c =
+pub returns-in_err-come_lent-clause-called : goal.returns-in_err-come_lent-clause-called
+returns-in_err-come_lent-clause-called c =
     rw (handed_on _ _ c.from_residual.ensures.1)
-    (call_refused (ask.datum c.args.at c.args.byte) refl c.args.p (held c.args.lent.now) c.come.ensures.comes _ c.in_err-come.ensures.gives)
+    (call_refused (ask.datum c.args.at c.args.byte) refl c.args.p (held c.args.lent.now) c.come_lent.ensures.comes _ c.in_err-come_lent.ensures.gives)
 
 pub returns-clause-called : goal.returns-clause-called
 returns-clause-called c =
-    call_accepted (ask.datum c.args.at c.args.byte) refl c.args.p (held c.args.lent.now) c.come.ensures.comes c.in_ok-come.ensures.gives c.after_data.ensures
-    c.lend_data.ensures.planes.0 c.lend_data.ensures.planes.1 c.lend_data.ensures.glass.0 c.lend_data.ensures.glass.1 c.lend_data.ensures.rows
+    call_accepted (ask.datum c.args.at c.args.byte) refl c.args.p (held c.args.lent.now) c.come_lent.ensures.comes c.in_ok-come_lent.ensures.gives c.after_data.ensures
+    c.lend_data.ensures.planes.0 c.lend_data.ensures.planes.1 refl refl c.lend_data.ensures.rows

@@ -1,6 +1,5 @@
 -- `lending::refreshes::settle` meets its contract, by how the glass is driven; where it is, a refresh ends, so the states are known to fit.
 use Rattle.controller.specs.declared.drives.Drive.TheVariants as drive
-use Rattle.controller.specs.Lent.{held}
 use Rattle.lending.proofs.Settling.{whole_ends, first_ends, settled_by}
 use mathlib.Core.Path.{refl, sym, ◌∙◌}
 use borrow.Author.Rules.{rules}
@@ -15,22 +14,19 @@ drive_first-requires c = let g = c.args in (c.requires.0, c.requires.1 (first_en
 pub returns-in-Nothing : goal.returns-in-Nothing
 returns-in-Nothing c =
     let g = c.args in
-    let b = held g.lent.now in
-    let whole = settled_by g.asserted g.at g.p drive.Nothing b.old b.new b.states b.picture (sym c.drive_at.ensures ∙ c.in-Nothing.is) refl refl refl in
-    record { old_after = whole.0; states_after = whole.1.0; picture_after = whole.1.1; others = (refl, refl); kept = search rules }
+    let whole = settled_by g.asserted g.at g.p drive.Nothing g.old.now g.new.now g.states.now g.picture.now (sym c.drive_at.ensures ∙ c.in-Nothing.is) refl refl refl in
+    record { old_after = whole.0; states_after = whole.1.0; picture_after = whole.1.1 }
 
 pub returns-in-Whole : goal.returns-in-Whole
 returns-in-Whole c =
     let g = c.args in
-    let b = held g.lent.now in
-    let whole = settled_by g.asserted g.at g.p drive.Whole b.old b.new b.states b.picture (sym c.drive_at.ensures ∙ c.in-Whole.is)
+    let whole = settled_by g.asserted g.at g.p drive.Whole g.old.now g.new.now g.states.now g.picture.now (sym c.drive_at.ensures ∙ c.in-Whole.is)
     c.copy_after.ensures c.drive_whole.ensures c.draw.ensures in
-    record { old_after = whole.0; states_after = whole.1.0; picture_after = whole.1.1; others = (refl, refl); kept = search rules }
+    record { old_after = whole.0; states_after = whole.1.0; picture_after = whole.1.1 }
 
 pub returns-in-First : goal.returns-in-First
 returns-in-First c =
     let g = c.args in
-    let b = held g.lent.now in
-    let whole = settled_by g.asserted g.at g.p _ b.old b.new b.states b.picture (sym c.drive_at.ensures ∙ c.in-First.is)
+    let whole = settled_by g.asserted g.at g.p _ g.old.now g.new.now g.states.now g.picture.now (sym c.drive_at.ensures ∙ c.in-First.is)
     refl c.drive_first.ensures c.draw-in-First.ensures in
-    record { old_after = whole.0; states_after = whole.1.0; picture_after = whole.1.1; others = (refl, refl); kept = search rules }
+    record { old_after = whole.0; states_after = whole.1.0; picture_after = whole.1.1 }

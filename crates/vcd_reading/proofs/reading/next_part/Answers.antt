@@ -1,6 +1,6 @@
--- `vcd_reading::reading::part` meets its contract, by the stage: a limit that was met stays met.
+-- `vcd_reading::reading::next_part` meets its contract, by the stage: a limit that was met stays met.
 use Rattle.vcd_reading.proofs.ReadLaws.{limit_more}
-use Rattle.vcd_reading.proofs.reading.part.Goals as goal
+use Rattle.vcd_reading.proofs.reading.next_part.Goals as goal
 
 pub returns-in-HeadTooLong-clause-stands : goal.returns-in-HeadTooLong-clause-stands
 returns-in-HeadTooLong-clause-stands c =

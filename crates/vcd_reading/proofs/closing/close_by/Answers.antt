@@ -1,4 +1,4 @@
--- `vcd_reading::closing::close` meets its contract, by the stage.
+-- `vcd_reading::closing::close_by` meets its contract, by the stage.
 use mathlib.Core.Path.{ap}
 use mathlib.Core.List.{List}
 use Prim.Native.Nat.{ℕ}
@@ -9,7 +9,7 @@ use Rattle.vcd_reading.proofs.CarryLaws.{front_as}
 use Rattle.vcd_reading.proofs.ReadLaws.{at_stage}
 use Rattle.vcd_reading.proofs.HeadLaws.{begins_as}
 use Rattle.vcd_reading.proofs.CloseLaws.{closes_at, closes_as, kept_closes, played_closes}
-use Rattle.vcd_reading.proofs.closing.close.Goals as goal
+use Rattle.vcd_reading.proofs.closing.close_by.Goals as goal
 
 pub returns-in-Heading-clause-closes : goal.returns-in-Heading-clause-closes
 returns-in-Heading-clause-closes c =
