@@ -21,12 +21,16 @@ pub fn is_broken(b: Body) -> bool
     matches!(b.wanted, Wanted::Broken)
 }
 
-// How many newlines some bytes have.
-#[tactic(auto, using(crate::proofs::FindLaws::newlines_counted))]
+// How many newlines some bytes have. A loop: every byte of a dump is seen by it, and `filter(..).count()` took half as
+// much time again.
 pub fn newlines(bytes: &[u8]) -> u64
     ensures { result ≡ rule.newlines bytes.now }
 {
-    bytes.iter().filter(|b| **b == NEWLINE).count() as u64
+    let mut count = 0;
+    for b in bytes {
+        count += u64::from(*b == NEWLINE);
+    }
+    count
 }
 
 // The first word, from a place on, after which the syntax is broken; one without bytes where there
