@@ -153,7 +153,8 @@ fn apart_level(first: u8, rest: &[u8]) -> Option<u8>
     }
 }
 
-// A value change.
+// A value change. Two places have it, and every second word of a dump is one: as a call it was a tenth of the instructions.
+#[inline(always)]
 fn value_plan(in_section: bool, word: &[u8], b: Body) -> Plan
     ensures { Plans result word.now b (λ codes. rule.value_word codes in_section word.now b) }
 {
