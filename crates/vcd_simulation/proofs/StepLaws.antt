@@ -1,6 +1,7 @@
 -- A word that makes no event, and a word by its first byte.
 use mathlib.Core.Path.{◌≡◌, refl, sym, ap, ◌∙◌}
 use mathlib.Core.Bool.{Bool, true, false}
+use mathlib.Core.Logic.{◌⊎◌, inl, inr}
 use mathlib.Core.List.{List, [], ◌∷◌}
 use Prim.Native.Nat.{ℕ, ◌<◌}
 use native.Mathlib.Omega.{arith}
@@ -15,6 +16,7 @@ use Rattle.vcd_values.specs.Numbers.{time_of}
 use Rattle.vcd_values.specs.Levels.{level, unknown}
 use Rattle.vcd_declarations.specs.Declarations.{is_end}
 use Rattle.vcd_simulation.specs.declared.body.Wanted.{Wanted}
+use Rattle.vcd_simulation.specs.declared.body.Wanted.TheVariants as want
 use Rattle.vcd_simulation.specs.declared.body.Body.{Body}
 use Rattle.vcd_simulation.specs.declared.word.Stepped.{Stepped}
 use Rattle.std.specs.Prelude.{Option, Some, None}
@@ -22,7 +24,7 @@ use Rattle.vcd_simulation.specs.declared.word.Plan.{Plan}
 use Rattle.vcd_simulation.specs.declared.word.Plan.TheVariants.{Only}
 use Rattle.vcd_simulation.specs.Simulation.{Codes, Went, breaks, unknown_at, changes, is_code, joined, apart, value_word, timed, key_word, command_word, text_word, word_by, word_done}
 use Rattle.vcd_simulation.specs.Written.{written}
-use Rattle.vcd_simulation.specs.InnerSteps.{Steps, Plans}
+use Rattle.vcd_simulation.specs.InnerSteps.{Steps, Plans, alone, is_section, command_or_section}
 use Rattle.vcd_simulation.proofs.Holding.{none_held, held_as}
 
 -- ---- no event: the buffer stays
@@ -93,7 +95,7 @@ command_some codes [] b n = absurd (omega (arith, n))
 command_some codes (x ∷ w) b n = refl
 
 -- ---- plans
-to_is : (w : Went) (body : Body) → body ≡ w.body → w.events ≡ [] → record { body = body; events = [] } ≡ w
+pub to_is : (w : Went) (body : Body) → body ≡ w.body → w.events ≡ [] → alone body ≡ w
 to_is w body e f = ap (λ (x : Body). record { body = x; events = [] }) e ∙ ap (λ (es : List Event). record { body = w.body; events = es }) (sym f)
 
 -- only a body
@@ -111,3 +113,10 @@ steps_as s e = rw (← e) s
 pub done_by_lem : (codes : Codes) (w : List ℕ) (b : Body) (x : Wanted) → b.wanted ≡ x → word_by x codes w b ≡ word_done codes w b
 unfolding word_done
 done_by_lem codes w b x e = ap (λ (y : Wanted). word_by y codes w b) (sym e)
+
+pub command_or_section_done : (codes : Codes) (w : List ℕ) (b : Body) → (b.wanted ≡ want.Command) ⊎ (b.wanted ≡ want.Section)
+    → command_or_section codes (is_section b.wanted) w b ≡ word_done codes w b
+command_or_section_done codes w b (inl e) =
+    ap (λ (x : Wanted). command_or_section codes (is_section x) w b) e ∙ done_by_lem codes w b want.Command e
+command_or_section_done codes w b (inr e) =
+    ap (λ (x : Wanted). command_or_section codes (is_section x) w b) e ∙ done_by_lem codes w b want.Section e

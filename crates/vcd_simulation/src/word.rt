@@ -1,8 +1,8 @@
 // One word of the simulation.
-ghost use Rattle.std.specs.Prelude.{◌≡◌, ◌+◌, ◌≤◌, length};
+ghost use Rattle.std.specs.Prelude.{◌≡◌, false, ◌+◌, ◌≤◌, length};
 ghost use Rattle.vcd_simulation.specs.Simulation as rule;
 ghost use Rattle.vcd_simulation.specs.Feed.{codes_by};
-ghost use Rattle.vcd_simulation.specs.InnerSteps.{Steps, Plans};
+ghost use Rattle.vcd_simulation.specs.InnerSteps.{Steps, Plans, Settles, is_section, command_or_section};
 
 use crate::body::{Body, Wanted};
 use crate::change::change;
@@ -153,8 +153,7 @@ fn apart_level(first: u8, rest: &[u8]) -> Option<u8>
     }
 }
 
-// A value change. Two places have it, and every second word of a dump is one: as a call it was a tenth of the instructions.
-#[inline(always)]
+// A value change.
 fn value_plan(in_section: bool, word: &[u8], b: Body) -> Plan
     ensures { Plans result word.now b (λ codes. rule.value_word codes in_section word.now b) }
 {
@@ -219,28 +218,48 @@ fn text_word(word: &[u8], b: Body) -> Body
     }
 }
 
-// A time, a keyword or a value change.
-fn command_plan(word: &[u8], b: Body) -> Plan
-    ensures { Plans result word.now b (λ codes. rule.command_word codes word.now b) }
+// A time or a keyword; none where the word begins as neither does.
+fn time_or_keyword(word: &[u8], b: Body) -> Option<Body>
+    ensures { Settles result (λ codes. rule.value_word codes false word.now b) (λ codes. rule.command_word codes word.now b) }
 {
     let [first, rest @ ..] = word else {
-        return Plan::Only(breaks(b));
+        return None;
     };
     match *first {
-        b'#' => Plan::Only(timed(time(rest), b)),
-        b'$' => Plan::Only(key_word(word, b)),
-        _ => value_plan(false, word, b),
+        b'#' => Some(timed(time(rest), b)),
+        b'$' => Some(key_word(word, b)),
+        _ => None,
     }
 }
 
-// A word of a section, or its end.
-fn section_plan(word: &[u8], b: Body) -> Plan
-    ensures { Plans result word.now b (λ codes. rule.section_word codes word.now b) }
+// Whether a value change of a section, or its end, may come next.
+fn is_section(wanted: Wanted) -> bool
+    ensures { result ≡ is_section wanted }
 {
-    if is_end(word) {
-        return Plan::Only(goes(b, Wanted::Command));
+    matches!(wanted, Wanted::Section)
+}
+
+// In a section its end, outside of one a time or a keyword; none for any other word.
+fn end_time_or_keyword(in_section: bool, word: &[u8], b: Body) -> Option<Body>
+    ensures { Settles result (λ codes. rule.value_word codes in_section word.now b)
+        (λ codes. command_or_section codes in_section word.now b) }
+{
+    if in_section {
+        is_end(word).then_some(goes(b, Wanted::Command))
+    } else {
+        time_or_keyword(word, b)
     }
-    value_plan(true, word, b)
+}
+
+// A word where a value change may stand, in a section or outside of one. One call for both: of a dump
+// where every other word is a value change `feed` took a quarter more time with two (docs/LOOK-BACK.md, d1).
+fn command_or_section_plan(in_section: bool, word: &[u8], b: Body) -> Plan
+    ensures { Plans result word.now b (λ codes. command_or_section codes in_section word.now b) }
+{
+    match end_time_or_keyword(in_section, word, b) {
+        Some(body) => Plan::Only(body),
+        None => value_plan(in_section, word, b),
+    }
 }
 
 // By what may come next.
@@ -248,8 +267,7 @@ fn plan_of(word: &[u8], b: Body) -> Plan
     ensures { Plans result word.now b (λ codes. rule.word_done codes word.now b) }
 {
     match b.wanted {
-        Wanted::Command => command_plan(word, b),
-        Wanted::Section => section_plan(word, b),
+        Wanted::Command | Wanted::Section => command_or_section_plan(is_section(b.wanted), word, b),
         Wanted::Text => Plan::Only(text_word(word, b)),
         Wanted::Code(level) => Plan::Change {
             level,

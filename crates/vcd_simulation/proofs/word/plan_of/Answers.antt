@@ -2,16 +2,13 @@
 use mathlib.Core.Path.{refl, sym}
 use native.Mathlib.Omega.{arith}
 use Rattle.vcd_simulation.specs.Simulation.{breaks, text_word}
-use Rattle.vcd_simulation.proofs.StepLaws.{text_quiet, done_by_lem, plans_to, plans_as}
+use Rattle.vcd_simulation.proofs.StepLaws.{text_quiet, done_by_lem, command_or_section_done, plans_to, plans_as}
 use Rattle.vcd_simulation.proofs.word.plan_of.Goals as goal
 
 pub returns-in-Command : goal.returns-in-Command
 returns-in-Command c =
-    let a = c.args in plans_as _ _ _ _ _ c.command_plan.ensures (λ codes. sym (done_by_lem codes a.word.now a.b _ c.in-Command.is))
-
-pub returns-in-Section : goal.returns-in-Section
-returns-in-Section c =
-    let a = c.args in plans_as _ _ _ _ _ c.section_plan.ensures (λ codes. sym (done_by_lem codes a.word.now a.b _ c.in-Section.is))
+    let a = c.args in
+    plans_as _ _ _ _ _ c.command_or_section_plan.ensures (λ codes. sym (rw c.is_section.ensures (command_or_section_done codes a.word.now a.b c.in-Command.is)))
 
 pub returns-in-Text : goal.returns-in-Text
 returns-in-Text c =
