@@ -1,5 +1,5 @@
 // A level for the signals of a code: what it does to the bus, and the events that it makes.
-ghost use Rattle.std.specs.Prelude.{◌≡◌, ◌&&◌, [], ◌+◌, ◌≤◌, eqb, length};
+ghost use Rattle.std.specs.Prelude.{◌≡◌, [], ◌+◌, ◌≤◌, length};
 ghost use Rattle.base.specs.Pick.{pick};
 ghost use Rattle.vcd_declarations.specs.Codes.{five_in};
 ghost use Rattle.vcd_bus.specs.Signals as rule;
@@ -28,21 +28,18 @@ fn byte_kind(dc: u8) -> u8
     if dc == 0 { COMMAND } else { DATA }
 }
 
-// Whether a level of `clk` takes the last bit of a byte.
-fn ends_byte(b: Bus, v: u8) -> bool
-    ensures { result ≡ (rule.takes v b && eqb b.bits 7) }
-{
-    takes(b, v) && b.bits == LAST_BIT
-}
-
-// `clk` takes a level: the eighth bit makes a byte.
+// `clk` takes a level: the eighth bit makes a byte. Two tests: as one value they were worked out without a
+// branch, which took a little longer.
 fn clock(b: Bus, v: u8, time: u64, out: &mut [u8], held: usize) -> Changed
     requires { held + 10 ≤ length out.old }
     ensures { (result.bus ≡ rule.clocked v b)
         × Holds (written (rule.byte_events time v b)) held result.held out.old out.new }
 {
     let bus = clocked(b, v);
-    if !ends_byte(b, v) {
+    if !takes(b, v) {
+        return Changed { bus, held };
+    }
+    if b.bits != LAST_BIT {
         return Changed { bus, held };
     }
     let e = Event {

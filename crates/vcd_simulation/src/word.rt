@@ -251,8 +251,8 @@ fn end_time_or_keyword(in_section: bool, word: &[u8], b: Body) -> Option<Body>
     }
 }
 
-// A word where a value change may stand, in a section or outside of one. One call for both: of a dump
-// where every other word is a value change `feed` took a quarter more time with two (docs/LOOK-BACK.md, d1).
+// A word where a value change may stand, in a section or outside of one. One place for both: on a dump
+// where every other word is a value change, `feed` took a quarter more time with two.
 fn command_or_section_plan(in_section: bool, word: &[u8], b: Body) -> Plan
     ensures { Plans result word.now b (λ codes. command_or_section codes in_section word.now b) }
 {
